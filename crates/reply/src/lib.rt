@@ -1,0 +1,53 @@
+// The refusals of document 01 by name, and their numbers. Later requests add variants at the end.
+ghost use mathlib.Core.Path.{_≡_};
+ghost use Rattle.reply.specs.Numbers.{numberOf};
+
+pub enum Refusal {
+    // Caused by the console.
+    DegreeRange,
+    PositionRange,
+    WalkRecord,
+    SliceTooShort,
+    SiteRange,
+    // Caused by who chooses polynomials.
+    CodeDegree,
+    ConstantTerm,
+    CommonFactor,
+    // Caused by who writes the file.
+    FileEnds,
+    NumberForm,
+    Version,
+    TrialDegree,
+    LevelRange,
+    LevelOrder,
+    NameLength,
+    NameByte,
+    TrailingBytes,
+}
+
+impl Refusal {
+    // The number that document 01 gives for the refusal.
+    pub fn number(self) -> u32
+        ensures { λ r. ⌜ r ≡ numberOf self ⌝ }
+    {
+        match self {
+            Refusal::DegreeRange => 1,
+            Refusal::PositionRange => 2,
+            Refusal::WalkRecord => 3,
+            Refusal::SliceTooShort => 4,
+            Refusal::SiteRange => 5,
+            Refusal::CodeDegree => 6,
+            Refusal::ConstantTerm => 7,
+            Refusal::CommonFactor => 8,
+            Refusal::FileEnds => 9,
+            Refusal::NumberForm => 10,
+            Refusal::Version => 11,
+            Refusal::TrialDegree => 12,
+            Refusal::LevelRange => 13,
+            Refusal::LevelOrder => 14,
+            Refusal::NameLength => 15,
+            Refusal::NameByte => 16,
+            Refusal::TrailingBytes => 17,
+        }
+    }
+}
