@@ -1,0 +1,11 @@
+pub mod Digits
+pub mod Ring
+pub mod Blocks
+pub mod Leading
+pub mod Division
+pub mod Divisor
+pub mod Primes
+pub mod Binary
+pub mod Ranges
+pub mod Shifts
+pub mod Examples

@@ -1,0 +1,5 @@
+pub mod Code
+pub mod Division
+pub mod Coprime
+pub mod Causes
+pub mod Replies

@@ -1,0 +1,86 @@
+// Arithmetic of codes.
+use reply::Refusal;
+ghost use mathlib.Core.Path.{_≡_};
+ghost use Rattle.poly.specs.Code.{degree, mul};
+ghost use Rattle.poly.specs.Replies.{checkedReply, checkReply, divisionOf};
+ghost use Rattle.poly.specs.Division.{divide};
+
+// The degree, from the leading zeros. Code 0, which has no degree, gives 0.
+pub fn degree_of(code: u32) -> u32
+    ensures { λ r. ⌜ r ≡ degree 2 code ⌝ }
+{
+    if code == 0 {
+        return 0;
+    }
+    31 - u32::leading_zeros(code)
+}
+
+// Whether a code may stand at degree n.
+pub enum Checked {
+    Passed,
+    Refused(Refusal),
+}
+
+pub fn check(n: u32, code: u32) -> Checked
+    ensures { λ r. ⌜ checkedReply r ≡ checkReply n code ⌝ }
+{
+    if code == 0 {
+        return Checked::Refused(Refusal::CodeDegree);
+    }
+    if degree_of(code) != n {
+        return Checked::Refused(Refusal::CodeDegree);
+    }
+    if code % 2 == 0 {
+        return Checked::Refused(Refusal::ConstantTerm);
+    }
+    Checked::Passed
+}
+
+// The product, by one pass over the bits of the shorter factor.
+pub fn product(a: u32, b: u32) -> u64
+    ensures { λ r. ⌜ r ≡ mul 2 a b ⌝ }
+{
+    if a < b { times(a, b) } else { times(b, a) }
+}
+
+// Horner's rule over the bits of a, highest first.
+fn times(a: u32, b: u32) -> u64
+    ensures { λ r. ⌜ r ≡ mul 2 a b ⌝ }
+{
+    let mut left = degree_of(a) + 1;
+    let mut sum: u64 = 0;
+    while 0 < left {
+        left -= 1;
+        sum = (sum << 1) ^ ((a >> left) % 2) as u64 * b as u64;
+    }
+    sum
+}
+
+pub struct Divided {
+    pub quotient: u32,
+    pub remainder: u32,
+}
+
+// Quotient and remainder. Each turn takes the remainder's leading term away. By 0: quotient 0, remainder a.
+pub fn divide(a: u32, b: u32) -> Divided
+    ensures { λ r. ⌜ divisionOf r ≡ divide 2 a b ⌝ }
+{
+    let mut quotient = 0;
+    let mut remainder = a;
+    if b == 0 {
+        return Divided {
+            quotient,
+            remainder,
+        };
+    }
+    let zeros = u32::leading_zeros(b);
+    while u32::leading_zeros(remainder) <= zeros {
+        let shift = zeros - u32::leading_zeros(remainder);
+        quotient = quotient ^ (1 << shift);
+        remainder = remainder ^ (b << shift);
+    }
+    Divided {
+        quotient,
+        remainder,
+    }
+}
