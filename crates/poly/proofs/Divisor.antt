@@ -125,7 +125,7 @@ module _ (p : ℕ) (p2 : 2 ≤ p) where
             go (no h) =
                 let d-pos : 0 < d = omega arith in
                 let has = Leading.degree-has p p2 d-pos in
-                let up : p ≤ p ^ degree p d = Leading.degree-one p p2 (degree p d) has (omega arith) in
+                let up : p ≤ p ^ degree p d = Leading.p-le-pow p p2 (degree p d) (Leading.degree-pos p p2 (degree p d) has (omega arith)) in
                 let none : gcd p a b ≡ 0 = divides-small has common (Nat.lt-of-lt-of-le lt up) in
                 absurd (omega arith)
 

@@ -93,9 +93,12 @@ module _ (p : ℕ) (p2 : 2 ≤ p) where
   degree-is {n} {a} h = degree-unique (degree-has (Nat.lt-of-lt-of-le (Blocks.pow-pos p p2 n) (h .low))) h
 
   -- what is no constant has degree 1 or more
-  pub degree-one : (n : ℕ) {a : ℕ} → HasDegree p n a → p ≤ a → p ≤ p ^ n
-  degree-one zero h l = let e : p ^ 1 ≡ p = pow-one in absurd (omega arith)
-  degree-one (suc n) h l = rw pow-one at (Nat.pow-le-pow-right (p-pos p p2) {i = 1} {j = suc n} (omega arith))
+  pub degree-pos : (n : ℕ) {a : ℕ} → HasDegree p n a → p ≤ a → 0 < n
+  degree-pos zero h l = let e : p ^ 1 ≡ p = pow-one in absurd (omega arith)
+  degree-pos (suc n) h l = omega arith
+
+  pub p-le-pow : (n : ℕ) → 0 < n → p ≤ p ^ n
+  p-le-pow n h = rw pow-one at (Nat.pow-le-pow-right (p-pos p p2) {i = 1} {j = n} h)
 
   -- ---- the leading digit
   pub lead-pos : {n a : ℕ} → HasDegree p n a → 0 < a / p ^ n
@@ -175,6 +178,9 @@ module _ (p : ℕ) (p2 : 2 ≤ p) where
             rw (pow-add p k n, Nat.mul-comm (p ^ k) (p ^ n))
             (Nat.mul-lt-mul-of-pos-right (la .small) (Blocks.pow-pos p p2 k));
       }
+
+  pub add-degree : {n a b : ℕ} → HasDegree p n a → b < p ^ n → HasDegree p n (add p a b)
+  add-degree ha h = lead-has (low-lead (lead-of (ha .high)) h) (lead-pos ha)
 
   pub shift-degree : {n a : ℕ} (k : ℕ) → HasDegree p n a → HasDegree p (k + n) (a * p ^ k)
   shift-degree k h = lead-has (shift-lead k (lead-of (h .high))) (lead-pos h)

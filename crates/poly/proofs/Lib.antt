@@ -1,6 +1,7 @@
 pub mod Digits
 pub mod Ring
 pub mod Blocks
+pub mod Coefficients
 pub mod Leading
 pub mod Division
 pub mod Divisor

@@ -7,7 +7,8 @@ use native.Mathlib.Omega.{arith}
 use lib.Dec.{leb, ltb}
 use borrow.Author.Tests.{lt-ltb, le-ltb, le-leb, lt-leb}
 use Rattle.poly.specs.Code.{HasDegree}
-use Rattle.poly.specs.Causes.{outside, offDegree}
+use Rattle.poly.specs.Limits.{outside}
+use Rattle.poly.specs.Causes.{offDegree}
 
 module _ (low high : ℕ) {n : ℕ} where
   pub outside-below : n < low → outside low high n ≡ true

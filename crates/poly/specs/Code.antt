@@ -2,7 +2,11 @@
 -- base p is the coefficient of x^j. So times x^k is times p^k, and a polynomial of degree below n is a code below p^n.
 use Prim.Native.Nat.{ℕ, zero, suc, pred, _+_, _*_, _/_, _%_, _^_, _≤_, _<_}
 
--- A fold over the base-p digits of a, the lowest digit taken in last. The first number is fuel; the code itself is enough.
+-- The coefficient of x^j.
+abbrev pub digit : ℕ → ℕ → ℕ → ℕ
+digit p j a = a / p ^ j % p
+
+-- A fold over the base-p digits of a, for 2 ≤ p, the lowest digit taken in last. The number before a is fuel; a itself is enough.
 abbrev pub foldIn {ℓ} : {A : Type ℓ} → ℕ → A → (ℕ → A → A) → ℕ → ℕ → A
 foldIn p z f zero a = z
 foldIn p z f (suc k) zero = z

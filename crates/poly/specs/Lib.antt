@@ -1,5 +1,6 @@
 pub mod Code
 pub mod Division
 pub mod Coprime
+pub mod Limits
 pub mod Causes
 pub mod Replies

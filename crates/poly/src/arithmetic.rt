@@ -2,7 +2,7 @@
 use reply::Refusal;
 ghost use mathlib.Core.Path.{_≡_};
 ghost use Rattle.poly.specs.Code.{degree, mul};
-ghost use Rattle.poly.specs.Replies.{checkedReply, checkReply, divisionOf};
+ghost use Rattle.poly.specs.Replies.{checkedReply, checkReply, checkPairReply, divisionOf};
 ghost use Rattle.poly.specs.Division.{divide};
 
 // The degree, from the leading zeros. Code 0, which has no degree, gives 0.
@@ -15,7 +15,7 @@ pub fn degree_of(code: u32) -> u32
     31 - u32::leading_zeros(code)
 }
 
-// Whether a code may stand at degree n.
+// Whether a code may stand at degree n. The degree itself is not judged: at one that no code has, every code gets 6.
 pub enum Checked {
     Passed,
     Refused(Refusal),
@@ -34,6 +34,17 @@ pub fn check(n: u32, code: u32) -> Checked
         return Checked::Refused(Refusal::ConstantTerm);
     }
     Checked::Passed
+}
+
+// The same for two codes, f before g.
+pub fn check_pair(n: u32, f: u32, g: u32) -> Checked
+    ensures { λ r. ⌜ checkedReply r ≡ checkPairReply n f g ⌝ }
+{
+    let first = check(n, f);
+    if let Checked::Refused(refusal) = first {
+        return Checked::Refused(refusal);
+    }
+    check(n, g)
 }
 
 // The product, by one pass over the bits of the shorter factor.

@@ -5,6 +5,7 @@ mod limits;
 pub use arithmetic::Checked;
 pub use arithmetic::Divided;
 pub use arithmetic::check;
+pub use arithmetic::check_pair;
 pub use arithmetic::degree_of;
 pub use arithmetic::divide;
 pub use arithmetic::product;

@@ -1,7 +1,7 @@
-// The degree of a trial's polynomials, which knows its own limits.
+// The degree of polynomials, which knows its own limits, its order and the length of its list.
 use reply::Refusal;
 ghost use mathlib.Core.Path.{_≡_};
-ghost use Rattle.poly.specs.Causes.{outside};
+ghost use Rattle.poly.specs.Limits.{outside};
 ghost use Rattle.poly.specs.Replies.{countReply, orderReply, lengthReply};
 
 pub struct Degree {
@@ -19,18 +19,21 @@ impl Degree {
     pub const LEAST: u32 = 1;
 
     pub const GREATEST: u32 = 31;
-    // The greatest degree of a sheet.
-    pub const SHEET: u32 = 6;
+    // A sheet has degree 2 to this.
+    pub const GREATEST_SHEET: u32 = 6;
 
     // Whether the degree is outside its limits.
     pub fn outside(self) -> bool
         ensures { λ r. ⌜ r ≡ outside 1 31 (self .n) ⌝ }
     {
-        let n = self.n;
-        if n < Degree::LEAST {
-            return true;
-        }
-        Degree::GREATEST < n
+        off(Degree::LEAST, Degree::GREATEST, self.n)
+    }
+
+    // Whether there are no sheets and no trial files of this degree.
+    pub fn outside_sheets(self) -> bool
+        ensures { λ r. ⌜ r ≡ outside 2 6 (self .n) ⌝ }
+    {
+        off(2, Degree::GREATEST_SHEET, self.n)
     }
 
     // The order of the squares, 2^n.
@@ -54,4 +57,14 @@ impl Degree {
         let n = self.n;
         Count::Is(2 * ((1u64 << (2 * (n - 1))) - 1) / 3)
     }
+}
+
+// Whether n is not one of low to high.
+fn off(low: u32, high: u32, n: u32) -> bool
+    ensures { λ r. ⌜ r ≡ outside low high n ⌝ }
+{
+    if n < low {
+        return true;
+    }
+    high < n
 }

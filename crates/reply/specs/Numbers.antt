@@ -1,20 +1,20 @@
 -- Document 01, "Turned down, by who can cause it": the number of each refusal.
 use Prim.Native.Nat.{ℕ}
 use Rattle.reply.specs.declared.Refusal.{Refusal}
-use Rattle.reply.specs.declared.Refusal.the-variants.{DegreeRange, PositionRange, WalkRecord, SliceTooShort, SiteRange}
+use Rattle.reply.specs.declared.Refusal.the-variants.{DegreeRange, PositionRange, WalkRecord, SliceLength, SiteRange}
 use Rattle.reply.specs.declared.Refusal.the-variants.{CodeDegree, ConstantTerm, CommonFactor}
-use Rattle.reply.specs.declared.Refusal.the-variants.{FileEnds, NumberForm, Version, TrialDegree, LevelRange, LevelOrder}
+use Rattle.reply.specs.declared.Refusal.the-variants.{FileEnds, NumberForm, Version, SheetDegree, LevelRange, LevelOrder}
 use Rattle.reply.specs.declared.Refusal.the-variants.{NameLength, NameByte, TrailingBytes}
 
 abbrev pub numberOf : Refusal → ℕ
--- degree outside 1 to 31
+-- degree outside 1 to 31 (sheet: 12 instead)
 numberOf DegreeRange = 1
 -- position not below the list's length
 numberOf PositionRange = 2
 -- walk record with degree outside 1 to 31, or position above the length
 numberOf WalkRecord = 3
 -- a lent slice too short; for the writer also a level list not of length 2^n
-numberOf SliceTooShort = 4
+numberOf SliceLength = 4
 -- row or column not below 2^n
 numberOf SiteRange = 5
 -- code not of degree n
@@ -29,9 +29,9 @@ numberOf FileEnds = 9
 numberOf NumberForm = 10
 -- version not 1
 numberOf Version = 11
--- degree outside 2 to 6
-numberOf TrialDegree = 12
--- level above 65535
+-- degree outside 2 to 6, of a trial file or a sheet
+numberOf SheetDegree = 12
+-- level above 65535 (reader only)
 numberOf LevelRange = 13
 -- level not above the one before it
 numberOf LevelOrder = 14

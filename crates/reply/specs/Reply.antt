@@ -20,3 +20,9 @@ abbrev pub unless : List Cause → Reply → Reply
 unless [] reply = reply
 unless ((true gives number) ∷ causes) reply = refused number
 unless ((false gives number) ∷ causes) reply = unless causes reply
+
+-- What lent memory holds after a call: the new content where the call is served; otherwise it is as it was.
+abbrev pub after {ℓ} : {A : Type ℓ} → Reply → A → A → A
+after (served values) new old = new
+after (refused number) new old = old
+after spent new old = old
