@@ -1,0 +1,45 @@
+-- `gcd` meets its contract. The invariant: a and b have the same greatest common divisor as f and g; b falls.
+use mathlib.Core.Path.{_≡_, refl, sym, ap, _∙_}
+use Prim.Native.Nat.{_<_}
+use native.Mathlib.Nat.{le-refl, pos-of-ne-zero}
+use borrow.Author.Needs.{needs}
+use Rattle.poly.specs.Coprime.{gcd}
+use Rattle.poly.proofs.Division.{remainder-lt}
+use Rattle.poly.proofs.Primes.{inverses-2}
+use Rattle.euclid.proofs.Chains.{gcd-step}
+use Rattle.euclid.proofs.gcd.Statement.{statement}
+use Rattle.euclid.proofs.gcd.Tie as tie
+
+abbrev Inv-loop : tie.InvT-loop
+Inv-loop f g a₀ b₀ a b = gcd 2 a b ≡ gcd 2 f g
+
+abbrev μ-loop : tie.MeasureT-loop
+μ-loop f g a₀ b₀ a b = b
+
+loop-holds : tie.Need-loop-holds Inv-loop μ-loop
+loop-holds c = refl
+
+divide-requires : tie.Need-divide-requires Inv-loop μ-loop
+divide-requires c κs = search needs
+
+nonzero : (c : tie.After-divide Inv-loop μ-loop) → 0 < c .before .before .loop .b
+nonzero c = pos-of-ne-zero (c .before .loop-test .taken)
+
+loop-less : tie.Need-loop-less Inv-loop μ-loop
+loop-less c =
+    rw (ap (λ d. d .remainder) (c .divide .ensures))
+    (remainder-lt 2 (le-refl 2) inverses-2 (c .before .before .loop .a) (c .before .before .loop .b) (nonzero c))
+
+loop-again : tie.Need-loop-again Inv-loop μ-loop
+loop-again c =
+    rw (ap (λ d. d .remainder) (c .divide .ensures))
+    (sym (gcd-step 2 (le-refl 2) inverses-2 (c .before .before .loop .a) (c .before .before .loop .b) (nonzero c))
+    ∙ c .before .before .loop .inv)
+
+returns : tie.Need-returns Inv-loop μ-loop
+unfolding gcd
+returns c = ap (gcd 2 (c .before .loop .a)) (sym (c .loop-test .left)) ∙ c .before .loop .inv
+
+pub gcd-spec : {M : Type 1} → statement M
+gcd-spec =
+    tie.close (tie.spec Inv-loop μ-loop loop-holds divide-requires loop-less loop-again returns)

@@ -1,0 +1,90 @@
+// Euclid's algorithm on codes: the chain of quotients and the greatest common divisor.
+use poly::Checked;
+use poly::Degree;
+use reply::Refusal;
+ghost use mathlib.Core.Path.{_≡_};
+ghost use Prim.Native.Nat.{_+_, _≤_};
+ghost use lib.ListN.{length};
+ghost use lib.Seq.{sets};
+ghost use Rattle.poly.specs.Coprime.{gcd};
+ghost use Rattle.poly.specs.Replies.{checkedReply};
+ghost use Rattle.euclid.specs.Chain.{chain};
+ghost use Rattle.euclid.specs.Replies.{chainedReply, chainReply, chainContent, checkCoprimeReply};
+
+// How many quotients were written, and the greatest common divisor; or why there is none.
+pub enum Chained {
+    Chain { count: usize, divisor: u32 },
+    Refused(Refusal),
+}
+
+// Writes the quotients of Euclid's algorithm on f and g, both of degree n and odd, to the front of out.
+pub fn quotients(n: u32, f: u32, g: u32, out: &mut [u32]) -> Chained
+    ensures reply { λ r. ⌜ chainedReply r ≡ chainReply n f g (length (now (out .entry))) ⌝ }
+    ensures content { λ r. ⌜ now (out .exit) ≡ chainContent n f g (now (out .entry)) ⌝ }
+{
+    if (Degree { n }).outside() {
+        return Chained::Refused(Refusal::DegreeRange);
+    }
+    let checked = poly::check_pair(n, f, g);
+    if let Checked::Refused(refusal) = checked {
+        return Chained::Refused(refusal);
+    }
+    if out.len() < 32 {
+        return Chained::Refused(Refusal::SliceLength);
+    }
+    let end = divisions(f, g, out, 0);
+    Chained::Chain {
+        count: end.count,
+        divisor: end.divisor,
+    }
+}
+
+struct End {
+    count: usize,
+    divisor: u32,
+}
+
+// The quotients of a and b, written from out[at] on. The degree of the divisor falls at each call.
+fn divisions(a: u32, b: u32, out: &mut [u32], at: usize) -> End
+    requires { ⌜ at + length (chain 2 a b .quotients) ≤ length (now out) ⌝ }
+    ensures end { λ r. ⌜ (r .count ≡ at + length (chain 2 a b .quotients)) × (r .divisor ≡ chain 2 a b .divisor) ⌝ }
+    ensures written { λ r. ⌜ now (out .exit) ≡ sets (now (out .entry)) at (chain 2 a b .quotients) ⌝ }
+{
+    if b == 0 {
+        return End {
+            count: at,
+            divisor: a,
+        };
+    }
+    let d = poly::divide(a, b);
+    out[at] = d.quotient;
+    divisions(b, d.remainder, out, at + 1)
+}
+
+// The greatest common divisor.
+pub fn gcd(f: u32, g: u32) -> u32
+    ensures { λ r. ⌜ r ≡ gcd 2 f g ⌝ }
+{
+    let mut a = f;
+    let mut b = g;
+    while b != 0 {
+        let d = poly::divide(a, b);
+        a = b;
+        b = d.remainder;
+    }
+    a
+}
+
+// Whether two codes may stand at degree n as a coprime pair.
+pub fn check_coprime(n: u32, f: u32, g: u32) -> Checked
+    ensures { λ r. ⌜ checkedReply r ≡ checkCoprimeReply n f g ⌝ }
+{
+    let codes = poly::check_pair(n, f, g);
+    if let Checked::Refused(refusal) = codes {
+        return Checked::Refused(refusal);
+    }
+    if gcd(f, g) != 1 {
+        return Checked::Refused(Refusal::CommonFactor);
+    }
+    Checked::Passed
+}
