@@ -27,12 +27,12 @@ module _ (p : ℕ) (p2 : 2 ≤ p) (inverses : HasInverses p) where
       ∙ ap (λ (v : ℕ). record { f = v; g = b }) (Division.divide-divided p p2 inverses a b pos .sum))
 
   -- the second code has a lower degree than the first
-  record Falling (two : Pair) : Type 0 where
-    n : ℕ
-    first : HasDegree p n (two .f)
-    second : two .g < p ^ n
+  pub record Falling (two : Pair) : Type 0 where
+    pub n : ℕ
+    pub first : HasDegree p n (two .f)
+    pub second : two .g < p ^ n
 
-  falling : (qs : List ℕ) (d : ℕ) → 0 < d → Chains.Each (λ q. p ≤ q) qs → Falling (built p qs d)
+  pub falling : (qs : List ℕ) (d : ℕ) → 0 < d → Chains.Each (λ q. p ≤ q) qs → Falling (built p qs d)
   falling [] d pos h = record { n = degree p d; first = Leading.degree-has p p2 pos; second = Blocks.pow-pos p p2 (degree p d) }
   falling (q ∷ qs) d pos (hq, hqs) =
       let rest = falling qs d pos hqs in
@@ -68,3 +68,8 @@ module _ (p : ℕ) (p2 : 2 ≤ p) (inverses : HasInverses p) where
       → chain p (built p (q ∷ qs) d .f) (built p (q ∷ qs) d .g) ≡ record { quotients = q ∷ qs; divisor = d }
   chain-built q [] d pos h = linked q [] d pos h (Chains.chain-zero p d)
   chain-built q (q′ ∷ qs) d pos (h, hs) = linked q (q′ ∷ qs) d pos (h, hs) (chain-built q′ qs d pos hs)
+
+  pub chain-of-built : (qs : List ℕ) (d : ℕ) → 0 < d → Chains.Each (λ q. p ≤ q) qs
+      → chain p (built p qs d .f) (built p qs d .g) ≡ record { quotients = qs; divisor = d }
+  chain-of-built [] d pos h = Chains.chain-zero p d
+  chain-of-built (q ∷ qs) d pos (h, hs) = chain-built q qs d pos hs

@@ -16,7 +16,7 @@ use Rattle.poly.proofs.Blocks
 use Rattle.poly.proofs.Leading
 use Rattle.poly.proofs.Division
 use Rattle.poly.proofs.Primes.{inverses-2}
-use Rattle.poly.proofs.Binary.{leads-cancel, coprime-one}
+use Rattle.poly.proofs.Binary.{add-again, leads-cancel, coprime-one}
 use Rattle.euclid.specs.Chain.{Chain, chain, chainIn}
 
 -- one division in front of a chain
@@ -145,10 +145,8 @@ module _ (p : ℕ) (p2 : 2 ≤ p) (inverses : HasInverses p) where
 -- ---- binary codes
 pub first-quotient : {n f g : ℕ} → HasDegree 2 n f → HasDegree 2 n g → chain 2 f g ≡ link 1 (chain 2 g (add 2 f g))
 first-quotient {n} {f} {g} hf hg =
-    let twice : add 2 g g ≡ 0 = ap (add 2 g) (sym (Ring.scale-one 2 (Nat.le-refl 2) g)) ∙ Ring.add-neg 2 (Nat.le-refl 2) g in
     let sum : add 2 (mul 2 1 g) (add 2 f g) ≡ f =
-    ap (λ (v : ℕ). add 2 v (add 2 f g)) (Ring.one-mul 2 (Nat.le-refl 2) g) ∙ Ring.add-left-comm 2 (Nat.le-refl 2) g f g
-    ∙ ap (add 2 f) twice ∙ Ring.add-zero-right 2 (Nat.le-refl 2) f in
+    ap (λ (v : ℕ). add 2 v (add 2 f g)) (Ring.one-mul 2 (Nat.le-refl 2) g) ∙ add-again f g in
     let divided : Division.Divided 2 n f g 1 (add 2 f g) = record { sum = sum; small = leads-cancel hf hg } in
     let (eq, er) = Division.divide-is 2 (Nat.le-refl 2) inverses-2 hg divided in
     let pos : 0 < g = Nat.lt-of-lt-of-le (Blocks.pow-pos 2 (Nat.le-refl 2) n) (hg .low) in

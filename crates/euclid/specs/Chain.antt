@@ -4,7 +4,7 @@ use mathlib.Core.List.{List, [], _∷_}
 use Rattle.poly.specs.Code.{add, mul}
 use Rattle.poly.specs.Division.{divide}
 
--- The quotients in the order of the divisions, and the last divisor.
+-- The quotients in the order of the divisions, and the last divisor, which is `gcd p a b` (the law `chain-divisor`).
 pub record Chain : Type 0 where
   pub quotients : List ℕ
   pub divisor : ℕ

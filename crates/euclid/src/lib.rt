@@ -13,7 +13,7 @@ ghost use Rattle.euclid.specs.Replies.{chainedReply, chainReply, chainCo
 
 // How many quotients were written, and the greatest common divisor; or why there is none.
 pub enum Chained {
-    Chain { count: usize, divisor: u32 },
+    Quotients { count: usize, divisor: u32 },
     Refused(Refusal),
 }
 
@@ -33,7 +33,7 @@ pub fn quotients(n: u32, f: u32, g: u32, out: &mut [u32]) -> Chained
         return Chained::Refused(Refusal::SliceLength);
     }
     let end = divisions(f, g, out, 0);
-    Chained::Chain {
+    Chained::Quotients {
         count: end.count,
         divisor: end.divisor,
     }
@@ -44,7 +44,7 @@ struct End {
     divisor: u32,
 }
 
-// The quotients of a and b, written from out[at] on. The degree of the divisor falls at each call.
+// The quotients of a and b, written from out[at] on.
 fn divisions(a: u32, b: u32, out: &mut [u32], at: usize) -> End
     requires { ⌜ at + length (chain 2 a b .quotients) ≤ length (now out) ⌝ }
     ensures end { λ r. ⌜ (r .count ≡ at + length (chain 2 a b .quotients)) × (r .divisor ≡ chain 2 a b .divisor) ⌝ }
@@ -75,7 +75,7 @@ pub fn gcd(f: u32, g: u32) -> u32
     a
 }
 
-// Whether two codes may stand at degree n as a coprime pair.
+// Whether two codes may stand at degree n as a coprime pair. The degree itself is not judged here.
 pub fn check_coprime(n: u32, f: u32, g: u32) -> Checked
     ensures { λ r. ⌜ checkedReply r ≡ checkCoprimeReply n f g ⌝ }
 {

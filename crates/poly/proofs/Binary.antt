@@ -1,6 +1,6 @@
 -- The field of two elements: addition is the machine's exclusive or, and codes are coprime exactly where their gcd is 1.
 use mathlib.Core.Logic.{_↔_}
-use mathlib.Core.Path.{_≡_, refl, sym, ap₂, _∙_}
+use mathlib.Core.Path.{_≡_, refl, sym, ap, ap₂, _∙_}
 use Prim.Native.Nat.{ℕ, zero, suc, _+_, _*_, _/_, _%_, _^_, _<_}
 use native.Mathlib.Nat.{le-refl, zero-mul, one-mul}
 use native.Mathlib.Omega.{arith}
@@ -29,6 +29,12 @@ add-xor =
     (λ x y d e hd he ih.
     Ring.add-cons 2 (le-refl 2) x y hd he ∙ ap₂ (λ (u v : ℕ). u * 2 + v) ih (digit-xor d e hd he)
     ∙ sym (xor-step (x * 2 + d) (y * 2 + e) ∙ rw (digits-div x hd, digits-div y he, digits-mod x hd, digits-mod y he)))
+
+-- a code added twice is gone
+pub add-again : (a b : ℕ) → add 2 b (add 2 a b) ≡ a
+add-again a b =
+    let twice : add 2 b b ≡ 0 = ap (add 2 b) (sym (Ring.scale-one 2 (le-refl 2) b)) ∙ Ring.add-neg 2 (le-refl 2) b in
+    Ring.add-left-comm 2 (le-refl 2) b a b ∙ ap (add 2 a) twice ∙ Ring.add-zero-right 2 (le-refl 2) a
 
 -- equal leading terms cancel
 pub leads-cancel : {n a b : ℕ} → HasDegree 2 n a → HasDegree 2 n b → add 2 a b < 2 ^ n

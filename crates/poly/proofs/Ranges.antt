@@ -1,14 +1,17 @@
 -- What a test of a number tells of document 01's causes: whether a degree is outside its range, and whether a code has degree n.
-use mathlib.Core.Bool.{true, false, _||_, or-true, true≢false}
-use mathlib.Core.Path.{_≡_, sym, _∙_}
-use Prim.Native.Nat.{ℕ, suc, _^_, _≤_, _<_}
+use mathlib.Core.Bool.{Bool, true, false, _||_, or-true, true≢false}
+use mathlib.Core.List.{List, _++_}
+use mathlib.Core.Path.{_≡_, refl, sym, _∙_}
+use Prim.Native.Nat.{ℕ, suc, _%_, _^_, _≤_, _<_}
 use native.Mathlib.Decide.{decLt}
 use native.Mathlib.Omega.{arith}
-use lib.Dec.{leb, ltb}
-use borrow.Author.Tests.{lt-ltb, le-ltb, le-leb, lt-leb}
+use lib.Dec.{leb, ltb, eqb}
+use borrow.Author.Tests.{lt-ltb, le-ltb, le-leb, lt-leb, ltb-false, leb-false, eqb-false}
 use Rattle.poly.specs.Code.{HasDegree}
 use Rattle.poly.specs.Limits.{outside}
-use Rattle.poly.specs.Causes.{offDegree}
+use Rattle.reply.specs.Reply.{Cause}
+use Rattle.reply.proofs.Order.{NoneApplies}
+use Rattle.poly.specs.Causes.{offDegree, codeCauses}
 
 module _ (low high : ℕ) {n : ℕ} where
   pub outside-below : n < low → outside low high n ≡ true
@@ -18,6 +21,10 @@ module _ (low high : ℕ) {n : ℕ} where
   pub outside-above : high < n → outside low high n ≡ true
   unfolding outside
   outside-above h = rw (lt-ltb high n h) (or-true (ltb n low))
+
+  pub inside : low ≤ n → n ≤ high → outside low high n ≡ false
+  unfolding outside
+  inside l h = rw (le-ltb n low l, le-ltb high n h)
 
   pub within : outside low high n ≡ false → (low ≤ n) × (n ≤ high)
   unfolding outside
@@ -40,3 +47,28 @@ off-degree n a h = go (decLt a (2 ^ n)) (decLt a (2 ^ suc n))
     go (yes l) d = rw (lt-ltb a (2 ^ n) l)
     go (no l) (yes u) = absurd (h (record { low = omega arith; high = u }))
     go (no l) (no u) = rw (le-leb (2 ^ suc n) a (omega arith)) (or-true (ltb a (2 ^ n)))
+
+-- ---- what is known of two codes that passed
+neither : (a b : Bool) → (a || b) ≡ false → (a ≡ false) × (b ≡ false)
+neither true b e = absurd (true≢false e)
+neither false b e = (refl, e)
+
+has-degree : {n a : ℕ} → offDegree n a ≡ false → HasDegree 2 n a
+unfolding offDegree
+has-degree {n} {a} e =
+    let (low, high) = neither (ltb a (2 ^ n)) (leb (2 ^ suc n) a) e in
+    record { low = ltb-false a (2 ^ n) low; high = leb-false (2 ^ suc n) a high }
+
+odd : (a : ℕ) → eqb (a % 2) 0 ≡ false → a % 2 ≡ 1
+odd a e = let ne = eqb-false (a % 2) 0 e in omega arith
+
+pub record Passed (n f g : ℕ) : Type 0 where
+  pub degree-f : HasDegree 2 n f
+  pub odd-f : f % 2 ≡ 1
+  pub degree-g : HasDegree 2 n g
+  pub odd-g : g % 2 ≡ 1
+
+pub passed-codes : (n f g : ℕ) (more : List Cause) → NoneApplies (codeCauses n f ++ codeCauses n g ++ more) → Passed n f g
+unfolding codeCauses
+passed-codes n f g more (df, (of, (dg, (og, rest)))) =
+    record { degree-f = has-degree df; odd-f = odd f of; degree-g = has-degree dg; odd-g = odd g og }

@@ -11,6 +11,10 @@ use Rattle.poly.specs.Coprime.{gcd}
 abbrev pub degreeCause : ℕ → Cause
 degreeCause n = outside 1 31 n gives 1
 
+-- 12: degree of a sheet or a trial file outside 2 to 6.
+abbrev pub sheetDegreeCause : ℕ → Cause
+sheetDegreeCause n = outside 2 6 n gives 12
+
 -- The code has not degree n: `HasDegree 2 n` does not hold of it.
 unfoldable pub offDegree : ℕ → ℕ → Bool
 offDegree n code = ltb code (2 ^ n) || leb (2 ^ suc n) code

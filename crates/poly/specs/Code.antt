@@ -4,7 +4,7 @@ use Prim.Native.Nat.{ℕ, zero, suc, pred, _+_, _*_, _/_, _%_, _^_, _≤_, _<_}
 
 -- The coefficient of x^j.
 abbrev pub digit : ℕ → ℕ → ℕ → ℕ
-digit p j a = a / p ^ j % p
+digit p a j = a / p ^ j % p
 
 -- A fold over the base-p digits of a, for 2 ≤ p, the lowest digit taken in last. The number before a is fuel; a itself is enough.
 abbrev pub foldIn {ℓ} : {A : Type ℓ} → ℕ → A → (ℕ → A → A) → ℕ → ℕ → A

@@ -12,8 +12,8 @@ Divides p d a = (q : ℕ) × (mul p q d ≡ a)
 abbrev pub Coprime : ℕ → ℕ → ℕ → Type 0
 Coprime p f g = (d : ℕ) → Divides p d f → Divides p d g → d < p
 
--- Euclid's algorithm: divisor by remainder, until the remainder is 0. The number before a is fuel; b itself is enough, since over a prime
--- field remainders fall.
+-- The greatest common divisor by Euclid's algorithm: divisor by remainder, until the remainder is 0. It divides both codes and is a
+-- combination of them (the law `bezout`). The number before a is fuel; b itself is enough, since over a prime field remainders fall.
 abbrev pub gcdIn : ℕ → ℕ → ℕ → ℕ → ℕ
 gcdIn p zero a b = a
 gcdIn p (suc k) a zero = a

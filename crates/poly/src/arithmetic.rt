@@ -15,7 +15,7 @@ pub fn degree_of(code: u32) -> u32
     31 - u32::leading_zeros(code)
 }
 
-// Whether a code may stand at degree n. The degree itself is not judged: at one that no code has, every code gets 6.
+// Whether a code may stand at degree n. The degree itself is not judged here: at 0 the code 1 passes, above 31 every code gets 6.
 pub enum Checked {
     Passed,
     Refused(Refusal),

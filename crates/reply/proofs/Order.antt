@@ -17,6 +17,20 @@ module _ (more : List Cause) (reply : Reply) where
   failed ((true gives k) ∷ causes) e = e
   failed ((false gives k) ∷ causes) e = failed causes e
 
+-- none of the causes applies
+abbrev pub NoneApplies : List Cause → Type 0
+NoneApplies [] = Unit {0}
+NoneApplies ((applies gives number) ∷ causes) = (applies ≡ false) × NoneApplies causes
+
+pub none-applies : (causes : List Cause) (values values′ : List ℕ) → unless causes (served values) ≡ served values′ → NoneApplies causes
+none-applies [] values values′ e = tt
+none-applies ((true gives k) ∷ causes) values values′ e = absurd (let z : _≡_ {A = ℕ} 0 1 = cc in omega arith)
+none-applies ((false gives k) ∷ causes) values values′ e = (refl, none-applies causes values values′ e)
+
+pub none-refuses : (causes : List Cause) (reply : Reply) → NoneApplies causes → unless causes reply ≡ reply
+none-refuses [] reply t = refl
+none-refuses ((applies gives k) ∷ causes) reply (e, t) = rw e (none-refuses causes reply t)
+
 -- a refusal leaves lent memory as it was
 pub kept {ℓ} : {A : Type ℓ} {k : ℕ} {reply : Reply} → refused k ≡ reply → (new old : A) → old ≡ after reply new old
 kept e new old = ap (λ (r : Reply). after r new old) e
