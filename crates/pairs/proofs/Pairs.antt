@@ -1,0 +1,23 @@
+-- The list of pairs: a pair for each sequence, in the same order.
+use Prim.Native.Nat.{ℕ, _-_, _*_, _/_, _^_, _<_}
+use mathlib.Core.Path.{_≡_, _∙_}
+use lib.ListN.{length, getD, length-map}
+use Rattle.pairs.specs.Sequences.{sequences}
+use Rattle.euclid.specs.Chain.{Pair}
+use Rattle.pairs.specs.Pairs.{build, pairs}
+use Rattle.pairs.proofs.Loops.{before, listed-map}
+use Rattle.pairs.proofs.Sequences.{sequenceAt, listed-sequences, length-sequences}
+use Rattle.pairs.proofs.Blocks.{blockSize}
+use Rattle.pairs.proofs.Length.{length-closed}
+
+pub length-blocks : (n : ℕ) → length (pairs n) ≡ before (blockSize n) 2 (n - 1)
+unfolding pairs
+length-blocks n = length-map (sequences n) build ∙ length-sequences n
+
+pub length-pairs : (n : ℕ) → length (pairs n) ≡ 2 * (4 ^ (n - 1) - 1) / 3
+unfolding pairs
+length-pairs n = length-map (sequences n) build ∙ length-closed n
+
+pub pairAt-is : (n j : ℕ) (none : Pair) → j < length (pairs n) → getD (pairs n) j none ≡ build (sequenceAt n j)
+unfolding pairs
+pairAt-is n j none h = listed-map build none (listed-sequences n) .stands j (rw length-blocks at h)

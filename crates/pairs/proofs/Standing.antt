@@ -1,0 +1,94 @@
+-- The list holds every coprime pair once, and nothing else: pairs and valid sequences give each other, and each valid sequence stands once.
+use mathlib.Core.Bool.{false, _&&_, and-false}
+use mathlib.Core.List.{List, [], _∷_, reverse, reverse-reverse, tail-eq-of-cons-eq}
+use mathlib.Core.Path.{_≡_, refl, sym, ap, _∙_}
+use Prim.Native.Nat.{ℕ, zero, suc, _≤_, _<_}
+use native.Mathlib.Nat.{lt-trans}
+use native.Mathlib.Decide.{ℕ-discrete}
+use native.Mathlib.Omega.{arith}
+use borrow.Author.Tests.{eq-eqb, ne-eqb}
+use lib.Dec.{eqb}
+use lib.ListN.{length, getD, length-map}
+use Rattle.euclid.specs.Chain.{Chain, Pair, chain}
+use Rattle.pairs.specs.Sequences.{sequences}
+use Rattle.pairs.specs.Pairs.{build, pairs, start, CoprimePair}
+use Rattle.pairs.specs.Replies.{indexOf}
+use Rattle.pairs.specs.Claims.{Stands, ListClaim}
+use Rattle.pairs.proofs.Valid.{Valid}
+use Rattle.pairs.proofs.Sequences.{sequenceAt-is, sequences-valid, valid-once}
+use Rattle.pairs.proofs.Pairs.{pairAt-is, length-pairs}
+use Rattle.pairs.proofs.Sequence.{sequenceOf, valid-chain, valid-pair, sequence-builds, sequence-valid}
+
+-- the list of pairs is as long as the list of sequences, and has its pair at each position
+same-length : (n : ℕ) → length (pairs n) ≡ length (sequences n)
+unfolding pairs
+same-length n = length-map (sequences n) build
+
+at : (n j : ℕ) → j < length (pairs n) → getD (pairs n) j start ≡ build (getD (sequences n) j [])
+at n j h = pairAt-is n j start h ∙ ap build (sym (sequenceAt-is n j (rw (same-length n) at h)))
+
+-- valid sequences that build the same pair are the same: they are its chain
+build-once : (n : ℕ) (qs rs : List ℕ) → Valid n qs → Valid n rs → build qs ≡ build rs → qs ≡ rs
+build-once n qs rs v w e =
+    let reversed : reverse qs ≡ reverse rs =
+    tail-eq-of-cons-eq
+    (ap (λ (c : Chain). c .quotients)
+    (sym (valid-chain n qs v) ∙ ap (λ (pair : Pair). chain 2 (pair .f) (pair .g)) e ∙ valid-chain n rs w)) in
+    sym (reverse-reverse qs) ∙ ap reverse reversed ∙ reverse-reverse rs
+
+pub entries-coprime : (n j : ℕ) → j < length (pairs n) → CoprimePair n (getD (pairs n) j start)
+entries-coprime n j h =
+    rw (at n j h) (valid-pair n (getD (sequences n) j []) (sequences-valid n j (rw (same-length n) at h)))
+
+pub coprime-stands : (n : ℕ) → 1 ≤ n → (pair : Pair) → CoprimePair n pair → Stands n pair
+coprime-stands n pos pair c =
+    let qs = sequenceOf pair in
+    let v : Valid n qs = sequence-valid n pair c pos in
+    let once = valid-once n qs v in
+    let below : once .position < length (pairs n) = rw (same-length n) (once .below) in
+    record {
+      position = once .position;
+      below = below;
+      there = at n (once .position) below ∙ ap build (once .stands) ∙ sequence-builds n pair c;
+      only =
+          λ j h e.
+          let l = rw (same-length n) at h in
+          once .only j l
+          (build-once n (getD (sequences n) j []) qs (sequences-valid n j l) v (sym (at n j h) ∙ e ∙ sym (sequence-builds n pair c)));
+    }
+
+differs : (f g : ℕ) (pair : Pair) → (pair ≡ record { f = f; g = g } → ⊥) → (eqb (pair .f) f && eqb (pair .g) g) ≡ false
+differs f g pair no-pair = go (ℕ-discrete (pair .f) f) (ℕ-discrete (pair .g) g)
+  where
+    go : Dec (pair .f ≡ f) → Dec (pair .g ≡ g) → (eqb (pair .f) f && eqb (pair .g) g) ≡ false
+    go (yes a) (yes b) = absurd (no-pair (λ i. record { f = a i; g = b i }))
+    go (yes a) (no b) = rw (ne-eqb (pair .g) g b) (and-false (eqb (pair .f) f))
+    go (no a) d = rw (ne-eqb (pair .f) f a)
+
+-- ---- where it stands is what `indexOf` finds
+index-is : (f g : ℕ) (l : List Pair) (j : ℕ) → j < length l → getD l j start ≡ record { f = f; g = g }
+    → ((i : ℕ) → i < j → getD l i start ≡ record { f = f; g = g } → ⊥) → indexOf f g l ≡ j
+index-is f g [] j h e none = absurd (omega arith)
+index-is f g (pair ∷ l) zero h e none =
+    rw (eq-eqb (pair .f) f (ap (λ (v : Pair). v .f) e), eq-eqb (pair .g) g (ap (λ (v : Pair). v .g) e))
+index-is f g (pair ∷ l) (suc j) h e none =
+    rw (differs f g pair (none 0 (omega arith))) (ap suc (index-is f g l j (omega arith) e (λ i l. none (suc i) (omega arith))))
+
+pub index-stands : (n : ℕ) (pair : Pair) (s : Stands n pair) → indexOf (pair .f) (pair .g) (pairs n) ≡ s .position
+index-stands n pair s =
+    index-is (pair .f) (pair .g) (pairs n) (s .position) (s .below) (s .there)
+    (λ i l e. omega (arith, s .only i (lt-trans l (s .below)) e))
+
+pub list-complete : ListClaim
+list-complete n pos =
+    record {
+      long = length-pairs n;
+      coprime = entries-coprime n;
+      once = coprime-stands n pos;
+      position =
+          λ j h.
+          let s = coprime-stands n pos (getD (pairs n) j start) (entries-coprime n j h) in
+          index-stands n (getD (pairs n) j start) s ∙ sym (s .only j h refl);
+      entry =
+          λ pair c. let s = coprime-stands n pos pair c in ap (λ (v : ℕ). getD (pairs n) v start) (index-stands n pair s) ∙ s .there;
+    }

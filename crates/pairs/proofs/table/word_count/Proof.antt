@@ -1,0 +1,43 @@
+-- `word_count` meets its contract: the closed form, tried at each of the 32 entries in one computation, holds of the number of words too.
+use mathlib.Core.Bool.{Bool}
+use mathlib.Core.List.{List, [], _∷_}
+use mathlib.Core.Path.{_≡_}
+use Prim.Native.Nat.{ℕ, _+_, _*_, _%_, _^_, _<_}
+use native.Mathlib.Omega.{arith}
+use borrow.Author.Needs.{needs}
+use lib.Dec.{eqb, eqb→eq}
+use lib.ListN.{length, getD}
+use Rattle.pairs.specs.Words.{words}
+use Rattle.pairs.proofs.Entries.{entry}
+use Rattle.pairs.proofs.Words.{words-closed}
+use Rattle.pairs.proofs.table.word_count.Statement.{statement}
+use Rattle.pairs.proofs.table.word_count.Tie as tie
+
+table : List ℕ
+table =
+    1 ∷ 0 ∷ 2 ∷ 2 ∷ 6 ∷ 10 ∷ 22 ∷ 42 ∷ 86 ∷ 170 ∷ 342 ∷ 682 ∷ 1366 ∷ 2730 ∷ 5462 ∷ 10922 ∷ 21846 ∷ 43690 ∷ 87382 ∷ 174762 ∷ 349526
+    ∷ 699050 ∷ 1398102 ∷ 2796202 ∷ 5592406 ∷ 11184810 ∷ 22369622 ∷ 44739242 ∷ 89478486 ∷ 178956970 ∷ 357913942 ∷ 715827882 ∷ []
+
+-- 3 x is 2^k + 2 for even k, 2^k - 2 for odd k
+closed : ℕ → ℕ → Bool
+closed k x = eqb (3 * x + 4 * (k % 2)) (2 ^ k + 2)
+
+right : (k : ℕ) → k < 32 → getD table k 0 ≡ length (words k)
+unfolding table closed
+right k h =
+    let tried : 3 * getD table k 0 + 4 * (k % 2) ≡ 2 ^ k + 2 =
+    eqb→eq (3 * getD table k 0 + 4 * (k % 2)) (2 ^ k + 2) (entry closed table tt k h) in
+    omega (arith, words-closed k)
+
+mul-result : tie.Need-mul-result
+mul-result c = search needs
+
+array-read-result : tie.Need-array-read-result
+array-read-result c = search needs
+
+returns : tie.Need-returns
+unfolding table
+returns c = right (c .args .k) (search needs)
+
+pub word-count-spec : {M : Type 1} → statement M
+word-count-spec = tie.close (tie.spec mul-result array-read-result returns)

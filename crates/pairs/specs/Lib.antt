@@ -1,0 +1,6 @@
+pub mod Loops
+pub mod Words
+pub mod Sequences
+pub mod Pairs
+pub mod Replies
+pub mod Claims

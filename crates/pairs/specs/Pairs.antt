@@ -1,0 +1,34 @@
+-- The list of pairs (document 01, "The list"): each sequence of quotients built up from (1, 0).
+use mathlib.Core.Path.{_≡_}
+use Prim.Native.Nat.{ℕ, _%_}
+use mathlib.Core.List.{List, [], _∷_, map}
+use Rattle.poly.specs.Code.{HasDegree}
+use Rattle.poly.specs.Coprime.{Coprime}
+use Rattle.euclid.specs.Chain.{Pair, back}
+use Rattle.pairs.specs.Sequences.{sequences}
+
+-- A quotient q turns (r, s) into (q × r + s, r).
+unfoldable pub turn : Pair → ℕ → Pair
+turn rs q = back 2 q rs
+
+abbrev pub turns : Pair → List ℕ → Pair
+turns rs [] = rs
+turns rs (q ∷ qs) = turns (turn rs q) qs
+
+abbrev pub start : Pair
+start = record { f = 1; g = 0 }
+
+-- Start from (1, 0), take the quotients in order; a last quotient 1 follows.
+unfoldable pub build : List ℕ → Pair
+build qs = turn (turns start qs) 1
+
+-- An ordered pair of coprime codes of degree n, both with constant term one.
+pub record CoprimePair (n : ℕ) (pair : Pair) : Type 0 where
+  pub degree-f : HasDegree 2 n (pair .f)
+  pub degree-g : HasDegree 2 n (pair .g)
+  pub odd-f : pair .f % 2 ≡ 1
+  pub odd-g : pair .g % 2 ≡ 1
+  pub coprime : Coprime 2 (pair .f) (pair .g)
+
+unfoldable pub pairs : ℕ → List Pair
+pairs n = map build (sequences n)

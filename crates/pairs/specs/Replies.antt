@@ -1,0 +1,40 @@
+-- The replies of this crate's calls.
+use Prim.Native.Nat.{ℕ, suc}
+use mathlib.Core.Bool.{cond, _&&_}
+use mathlib.Core.List.{List, [], _∷_, _++_}
+use lib.Dec.{leb, eqb}
+use lib.ListN.{getD}
+use Rattle.reply.specs.Numbers.{numberOf}
+use Rattle.reply.specs.Reply.{Reply, served, refused, unless, _gives_}
+use Rattle.poly.specs.Limits.{listLength}
+use Rattle.poly.specs.Causes.{degreeCause, codeCauses, commonFactor}
+use Rattle.euclid.specs.Chain.{Pair}
+use Rattle.pairs.specs.Pairs.{start, pairs}
+use Rattle.pairs.specs.declared.answer.Found.{Found}
+use Rattle.pairs.specs.declared.answer.Found.the-variants.{Codes, Refused}
+use Rattle.pairs.specs.declared.answer.Place.{Place}
+use Rattle.pairs.specs.declared.answer.Place.the-variants.{At, Refused as Nowhere}
+
+abbrev pub foundReply : Found → Reply
+foundReply (Codes f g) = served (f ∷ g ∷ [])
+foundReply (Refused refusal) = refused (numberOf refusal)
+
+-- The pair at a position; 2, position not below the list's length.
+unfoldable pub pairAtReply : ℕ → ℕ → Reply
+pairAtReply n position =
+    let pair : Pair = getD (pairs n) position start in
+    unless (degreeCause n ∷ leb (listLength n) position gives 2 ∷ []) (served (pair .f ∷ pair .g ∷ []))
+
+-- Where a pair stands in a list, counted from 0.
+abbrev pub indexOf : ℕ → ℕ → List Pair → ℕ
+indexOf f g [] = 0
+indexOf f g (pair ∷ rest) = cond (eqb (pair .f) f && eqb (pair .g) g) 0 (suc (indexOf f g rest))
+
+abbrev pub placeReply : Place → Reply
+placeReply (At position) = served (position ∷ [])
+placeReply (Nowhere refusal) = refused (numberOf refusal)
+
+-- The position of a pair.
+unfoldable pub positionReply : ℕ → ℕ → ℕ → Reply
+positionReply n f g =
+    unless (degreeCause n ∷ codeCauses n f ++ codeCauses n g ++ (commonFactor f g ∷ [])) (served (indexOf f g (pairs n) ∷ []))
