@@ -1,0 +1,12 @@
+pub mod Pigeonhole
+pub mod Codes
+pub mod Middle
+pub mod Linear
+pub mod Latin
+pub mod Orthogonal
+pub mod Binary
+pub mod Sheets
+pub mod Served
+pub mod Orders
+pub mod Claims
+pub mod Examples

@@ -1,0 +1,132 @@
+// The square of a polynomial: the symbols at a site, and the sheet that lays two squares together.
+use poly::Checked;
+use poly::Degree;
+use reply::Refusal;
+ghost use mathlib.Core.Path.{_≡_};
+ghost use Prim.Native.Nat.{suc, _*_, _/_, _%_, _^_, _≤_, _<_};
+ghost use mathlib.Core.List.{_++_};
+ghost use lib.ListN.{length, drop};
+ghost use Rattle.poly.specs.Code.{digit};
+ghost use Rattle.squares.specs.Symbols.{number, symbol};
+ghost use Rattle.squares.specs.Replies.{symbolsReply, siteReply, laidReply, sheetReply, sheetOf, sheetBytes};
+ghost use Rattle.squares.specs.Parts.{Parts};
+
+// The symbols of f and of g at a site, or why there are none.
+pub enum Symbols {
+    Both(u32, u32),
+    Refused(Refusal),
+}
+
+// The site call: both symbols at a row and a column.
+pub fn site(n: u32, f: u32, g: u32, row: u32, col: u32) -> Symbols
+    ensures { λ r. ⌜ symbolsReply r ≡ siteReply n f g row col ⌝ }
+{
+    if (Degree { n }).outside() {
+        return Symbols::Refused(Refusal::DegreeRange);
+    }
+    let codes = poly::check_pair(n, f, g);
+    if let Checked::Refused(refusal) = codes {
+        return Symbols::Refused(refusal);
+    }
+    let order = 1u64 << n;
+    if order <= row as u64 {
+        return Symbols::Refused(Refusal::SiteRange);
+    }
+    if order <= col as u64 {
+        return Symbols::Refused(Refusal::SiteRange);
+    }
+    let place = row as u64 * order + col as u64;
+    let first = symbol_at(n, f, place);
+    let second = symbol_at(n, g, place);
+    Symbols::Both(first, second)
+}
+
+// Whether a sheet was laid.
+pub enum Laid {
+    Done,
+    Refused(Refusal),
+}
+
+// The sheet call: writes the two squares, laid together, to the front of out.
+pub fn sheet(n: u32, f: u32, g: u32, out: &mut [u8]) -> Laid
+    ensures { λ r. ⌜ laidReply r ≡ sheetReply n f g (length (now (out .entry))) ⌝ }
+    ensures { λ _. ⌜ now (out .exit) ≡ sheetBytes n f g (now (out .entry)) ⌝ }
+{
+    if (Degree { n }).outside_sheets() {
+        return Laid::Refused(Refusal::SheetDegree);
+    }
+    let codes = euclid::check_coprime(n, f, g);
+    if let Checked::Refused(refusal) = codes {
+        return Laid::Refused(refusal);
+    }
+    let order: usize = 1 << n;
+    if out.len() < 2 * (order * order) {
+        return Laid::Refused(Refusal::SliceLength);
+    }
+    fill(n, f, g, out);
+    Laid::Done
+}
+
+// The n + 1 bits of a code in reverse: the constant term is the highest.
+fn reverse(n: u32, f: u32) -> u32
+    requires { ⌜ n < 32 ⌝ }
+    ensures { λ r. ⌜ r ≡ number 2 (suc n) (digit 2 f) ⌝ }
+{
+    let mut bits: u32 = 0;
+    let mut i: u32 = 0;
+    while i <= n {
+        bits = bits * 2 + (f >> i) % 2;
+        i += 1;
+    }
+    bits
+}
+
+// The symbol at a site, as the number row * 2^n + col: each output cell is a count of ones modulo 2.
+fn symbol_at(n: u32, code: u32, site: u64) -> u32
+    requires { ⌜ n < 32 ⌝ }
+    ensures { λ r. ⌜ r ≡ symbol 2 n code (site / 2 ^ n) (site % 2 ^ n) ⌝ }
+{
+    let bits = reverse(n, code) as u64;
+    let mut cells: u32 = 0;
+    let mut left = n;
+    while 0 < left {
+        left -= 1;
+        cells = cells * 2 + u64::count_ones(bits & (site >> left)) % 2;
+    }
+    cells
+}
+
+// The symbols at the sites 0, stride, 2 stride, ..: with stride 2^n those of column 0, with stride 1 those of row 0.
+fn parts(n: u32, code: u32, stride: u64) -> [u8; 64]
+    requires { ⌜ (n < 7) × (code < 2 ^ suc n) × (stride < 65) ⌝ }
+    ensures { λ r. ⌜ Parts n code stride r ⌝ }
+{
+    let order: usize = 1 << n;
+    let mut table = [0u8; 64];
+    let mut i: usize = 0;
+    while i < order {
+        table[i] = symbol_at(n, code, i as u64 * stride) as u8;
+        i += 1;
+    }
+    table
+}
+
+// The sheet, site by site: a symbol is its row's part exclusive or its column's.
+fn fill(n: u32, f: u32, g: u32, out: &mut [u8])
+    requires { ⌜ (n < 7) × (f < 2 ^ suc n) × (g < 2 ^ suc n) × (2 * 4 ^ n ≤ length (now out)) ⌝ }
+    ensures { λ _. ⌜ now (out .exit) ≡ sheetOf n f g ++ drop (2 * 4 ^ n) (now (out .entry)) ⌝ }
+{
+    let order: usize = 1 << n;
+    let f_rows = parts(n, f, order as u64);
+    let f_cols = parts(n, f, 1);
+    let g_rows = parts(n, g, order as u64);
+    let g_cols = parts(n, g, 1);
+    let mut site: usize = 0;
+    while site < order * order {
+        let row = site / order;
+        let col = site % order;
+        out[2 * site] = f_rows[row] ^ f_cols[col];
+        out[2 * site + 1] = g_rows[row] ^ g_cols[col];
+        site += 1;
+    }
+}
