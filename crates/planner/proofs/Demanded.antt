@@ -1,0 +1,75 @@
+-- Demand 3 holds: the walk's claim, the list's and the squares', put together.
+use mathlib.Core.Bool.{false}
+use mathlib.Core.List.{[], _∷_}
+use mathlib.Core.Path.{_≡_, sym, _∙_}
+use Prim.Native.Nat.{ℕ, _%_, _^_, _≤_, _<_}
+use native.Mathlib.Nat.{le-refl}
+use native.Mathlib.Omega.{arith}
+use borrow.Author.Tests.{lt-leb, ne-eqb}
+use lib.Dec.{eqb}
+use lib.ListN.{length}
+use Rattle.reply.specs.Reply.{served}
+use Rattle.reply.proofs.Order.{none-refuses}
+use Rattle.poly.specs.Limits.{listLength}
+use Rattle.poly.specs.Causes.{codeCauses}
+use Rattle.poly.proofs.Ranges.{inside, on-degree}
+use Rattle.poly.proofs.Primes.{inverses-2}
+use Rattle.pairs.specs.Pairs.{pairs}
+use Rattle.pairs.specs.Replies.{pairAtReply}
+use Rattle.pairs.proofs.Standing.{list-complete}
+use Rattle.squares.specs.Symbols.{symbol}
+use Rattle.squares.specs.Replies.{siteCauses, siteReply}
+use Rattle.squares.proofs.Claims.{squares-orthogonal}
+use Rattle.walk.proofs.Walking.{walked}
+use Rattle.planner.specs.Demand.{Polynomial, DemandThree, entry}
+
+odd : (code : ℕ) → code % 2 ≡ 1 → eqb (code % 2) 0 ≡ false
+odd code e = ne-eqb (code % 2) 0 (λ z. omega arith)
+
+module _ (n : ℕ) (low : 1 ≤ n) (high : n ≤ 31) where
+  -- no cause of the site call applies
+  site-answers : (f g row col : ℕ) → Polynomial n f → Polynomial n g → row < 2 ^ n → col < 2 ^ n
+      → siteReply n f g row col ≡ served (symbol 2 n f row col ∷ symbol 2 n g row col ∷ [])
+  unfolding siteReply codeCauses
+  site-answers f g row col pf pg hr hc =
+      none-refuses (siteCauses n f g row col) _ (
+        inside 1 31 low high,
+        (
+          on-degree (pf .degree),
+          (
+            odd f (pf .constant),
+            (
+              on-degree (pg .degree),
+              (
+                odd g (pg .constant),
+                (rw (lt-leb (2 ^ n) row hr, lt-leb (2 ^ n) col hc), tt),
+              ),
+            ),
+          ),
+        ),
+      )
+
+  pair-answers : (j : ℕ) → j < listLength n → pairAtReply n j ≡ served (entry n j .f ∷ entry n j .g ∷ [])
+  unfolding pairAtReply
+  pair-answers j h = rw (inside 1 31 low high, lt-leb (listLength n) j h)
+
+pub demand-three : DemandThree
+demand-three n low high =
+    let list = list-complete n low in
+    let long : length (pairs n) ≡ listLength n = list .long in
+    record {
+      begins = rw (inside 1 31 low high);
+      walk = walked n low high;
+      pair = pair-answers n low high;
+      no-stranger = λ j h. list .coprime j (rw long h);
+      all-once =
+          λ two c.
+          let s = list .once two c in
+          record {
+            one = s .position;
+            is = (rw long at (s .below), s .there);
+            only = λ a b ha hb. s .only a (rw long (ha .0)) (ha .1) ∙ sym (s .only b (rw long (hb .0)) (hb .1));
+          };
+      site = site-answers n low high;
+      crossing = λ f g pf pg. squares-orthogonal 2 (le-refl 2) inverses-2 n f g (pf .degree) (pg .degree);
+    }

@@ -1,0 +1,51 @@
+-- Demand 3, whole. Every definition here is one that a public contract equates with a call's answer: `startReply`, `lookReply` and
+-- `afterDraw` (through `Walked`) are those of start, look and draw, `pairAtReply` that of the pair call, `siteReply` that of the site call.
+use mathlib.Core.Logic.{_↔_}
+use mathlib.Core.List.{List, [], _∷_}
+use mathlib.Core.Path.{_≡_}
+use Prim.Native.Nat.{ℕ, _%_, _^_, _≤_, _<_}
+use lib.ListN.{getD}
+use Rattle.reply.specs.Reply.{served}
+use Rattle.poly.specs.Code.{HasDegree}
+use Rattle.poly.specs.Coprime.{Coprime}
+use Rattle.poly.specs.Limits.{listLength}
+use Rattle.euclid.specs.Chain.{Pair}
+use Rattle.pairs.specs.Pairs.{pairs, start, CoprimePair}
+use Rattle.pairs.specs.Replies.{pairAtReply}
+use Rattle.squares.specs.Squares.{ExactlyOne, Orthogonal}
+use Rattle.squares.specs.Symbols.{symbol}
+use Rattle.squares.specs.Replies.{siteReply}
+use Rattle.walk.specs.Walks.{startReply}
+use Rattle.walk.specs.Calls.{Call, Walked}
+
+-- The pair at a position of document 01's order.
+abbrev pub entry : ℕ → ℕ → Pair
+entry n j = getD (pairs n) j start
+
+-- A code of degree n with constant term one.
+pub record Polynomial (n code : ℕ) : Type 0 where
+  pub degree : HasDegree 2 n code
+  pub constant : code % 2 ≡ 1
+
+pub record Demand (n : ℕ) : Type 0 where
+  -- A walk begins at degree n and position 0.
+  pub begins : startReply n ≡ served (n ∷ 0 ∷ [])
+  -- For every list of draws and looks on it: a call with j draws before it gives the pair at position j if j is below L, and says spent
+  -- exactly when j is L or more; none is turned down; and the record afterwards.
+  pub walk : (calls : List Call) → Walked n calls
+  -- The pair at a position is what the pair call gives.
+  pub pair : (j : ℕ) → j < listLength n → pairAtReply n j ≡ served (entry n j .f ∷ entry n j .g ∷ [])
+  -- The pairs at positions 0 to L - 1 are ordered coprime pairs of degree n with both constant terms one ..
+  pub no-stranger : (j : ℕ) → j < listLength n → CoprimePair n (entry n j)
+  -- .. all of them, once each.
+  pub all-once : (two : Pair) → CoprimePair n two → ExactlyOne (λ (j : ℕ). (j < listLength n) × (entry n j ≡ two))
+  -- The squares have at each site the symbols that the site call gives.
+  pub site : (f g row col : ℕ) → Polynomial n f → Polynomial n g → row < 2 ^ n → col < 2 ^ n
+      → siteReply n f g row col ≡ served (symbol 2 n f row col ∷ symbol 2 n g row col ∷ [])
+  -- The two squares of order 2^n, laid together, show each pair of symbols at exactly one site if the two are coprime, and only then.
+  pub crossing : (f g : ℕ) → Polynomial n f → Polynomial n g
+      → Orthogonal (2 ^ n) (symbol 2 n f) (symbol 2 n g) ↔ Coprime 2 f g
+
+-- At any degree n from 1 to 31, with L = 2(4^(n-1) - 1)/3, which is `listLength n`.
+abbrev pub DemandThree : Type 0
+DemandThree = (n : ℕ) → 1 ≤ n → n ≤ 31 → Demand n

@@ -1,0 +1,68 @@
+-- Demand 3's claim about a whole list of draws and looks.
+use mathlib.Core.Path.{_≡_}
+use Prim.Native.Nat.{ℕ, _+_, _≤_, _<_, min}
+use mathlib.Core.List.{List, [], _∷_}
+use lib.ListN.{length, getD, take}
+use Rattle.reply.specs.Reply.{Reply, served, refused, spent}
+use Rattle.poly.specs.Limits.{listLength}
+use Rattle.walk.specs.declared.Walk.{Walk}
+use Rattle.walk.specs.Walks.{entryReply, lookReply, afterDraw}
+
+pub data Call : Type 0 where
+  look : Call
+  draw : Call
+
+-- A call with its answer.
+pub record Answered : Type 0 where
+  pub call : Call
+  pub reply : Reply
+
+-- The record after a call: each call gets the record as the call before it handed it back or left it.
+abbrev pub next : Call → Walk → Walk
+next look walk = walk
+next draw walk = afterDraw walk
+
+-- The answers of a list of calls, and the record after them.
+abbrev pub answers : Walk → List Call → List Answered
+answers walk [] = []
+answers walk (call ∷ calls) = record { call = call; reply = lookReply walk } ∷ answers (next call walk) calls
+
+abbrev pub last : Walk → List Call → Walk
+last walk [] = walk
+last walk (call ∷ calls) = last (next call walk) calls
+
+-- How many draws among them were not turned down.
+abbrev pub counts : Call → Reply → ℕ
+counts look reply = 0
+counts draw (served values) = 1
+counts draw spent = 1
+counts draw (refused number) = 0
+
+abbrev pub draws : List Answered → ℕ
+draws [] = 0
+draws (first ∷ rest) = counts (first .call) (first .reply) + draws rest
+
+abbrev pub NotRefused : Reply → Type 0
+NotRefused (served values) = Unit {0}
+NotRefused spent = Unit {0}
+NotRefused (refused number) = ⊥
+
+-- The record that starting gives.
+abbrev pub begun : ℕ → Walk
+begun n = record { degree = n; position = 0 }
+
+-- None of the calls is turned down. Each, with j draws before it in the list that were not turned down, gives the pair at position j of
+-- the list if j is below its length L, and says spent if j is L or more. After them the degree is still n, and the position is the smaller
+-- of L and how many draws were not turned down.
+pub record Walked (n : ℕ) (calls : List Call) : Type 0 where
+  pub answered : length (answers (begun n) calls) ≡ length calls
+  pub each : (i : ℕ) → i < length calls
+      → getD (answers (begun n) calls) i (record { call = look; reply = spent }) .reply
+      ≡ entryReply n (draws (take i (answers (begun n) calls)))
+  pub none-refused : (i : ℕ) → i < length calls
+      → NotRefused (getD (answers (begun n) calls) i (record { call = look; reply = spent }) .reply)
+  pub degree : last (begun n) calls .degree ≡ n
+  pub position : last (begun n) calls .position ≡ min (listLength n) (draws (answers (begun n) calls))
+
+abbrev pub WalkClaim : Type 0
+WalkClaim = (n : ℕ) → 1 ≤ n → n ≤ 31 → (calls : List Call) → Walked n calls

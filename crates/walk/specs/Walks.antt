@@ -1,0 +1,48 @@
+-- The walk (document 01, "Walk"): what start, look and draw reply, and the record after a draw.
+use Prim.Native.Nat.{ℕ, _+_}
+use mathlib.Core.Bool.{_||_, cond}
+use mathlib.Core.List.{[], _∷_}
+use lib.Dec.{ltb}
+use lib.ListN.{getD}
+use Rattle.reply.specs.Numbers.{numberOf}
+use Rattle.reply.specs.Reply.{Reply, served, refused, spent, Cause, _gives_, unless, after}
+use Rattle.poly.specs.Limits.{outside, listLength}
+use Rattle.poly.specs.Causes.{degreeCause}
+use Rattle.euclid.specs.Chain.{Pair}
+use Rattle.walk.specs.declared.Walk.{Walk}
+use Rattle.pairs.specs.Pairs.{pairs, start}
+use Rattle.walk.specs.declared.Started.{Started}
+use Rattle.walk.specs.declared.Started.the-variants.{Walk as Begun, Refused}
+use Rattle.walk.specs.declared.Next.{Next}
+use Rattle.walk.specs.declared.Next.the-variants.{Codes, Spent, Refused as Turned}
+
+abbrev pub startedReply : Started → Reply
+startedReply (Begun walk) = served (walk .degree ∷ walk .position ∷ [])
+startedReply (Refused refusal) = refused (numberOf refusal)
+
+-- Starting puts the position at 0.
+abbrev pub startReply : ℕ → Reply
+startReply n = unless (degreeCause n ∷ []) (served (n ∷ 0 ∷ []))
+
+-- 3: walk record with degree outside 1 to 31, or position above the length.
+unfoldable pub recordCause : Walk → Cause
+recordCause walk = (outside 1 31 (walk .degree) || ltb (listLength (walk .degree)) (walk .position)) gives 3
+
+abbrev pub nextReply : Next → Reply
+nextReply (Codes f g) = served (f ∷ g ∷ [])
+nextReply Spent = spent
+nextReply (Turned refusal) = refused (numberOf refusal)
+
+-- The pair at a position of the list of degree n; spent at the list's end.
+abbrev pub entryReply : ℕ → ℕ → Reply
+entryReply n position =
+    let pair : Pair = getD (pairs n) position start in
+    cond (ltb position (listLength n)) (served (pair .f ∷ pair .g ∷ [])) spent
+
+-- A look and a draw both answer with the pair at the record's position.
+unfoldable pub lookReply : Walk → Reply
+lookReply walk = unless (recordCause walk ∷ []) (entryReply (walk .degree) (walk .position))
+
+-- A draw that gives a pair moves on by one; otherwise the record stays.
+unfoldable pub afterDraw : Walk → Walk
+afterDraw walk = after (lookReply walk) (record { degree = walk .degree; position = walk .position + 1 }) walk
