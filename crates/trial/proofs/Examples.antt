@@ -1,0 +1,113 @@
+-- Document 01's trial file and its neighbours, and for each of the numbers 4 and 6 to 17 an input that gets it: all computed.
+use mathlib.Core.Path.{_≡_, refl}
+use Prim.Native.Nat.{ℕ}
+use mathlib.Core.List.{List, [], _∷_, _++_, map}
+use lib.ListN.{length, replicate}
+use Rattle.reply.specs.Reply.{Reply, served, refused}
+use Rattle.poly.specs.Code.{add, scale, degree}
+use Rattle.poly.specs.Division.{inverse, bringDown, divide}
+use Rattle.poly.specs.Coprime.{gcd}
+use Rattle.poly.specs.Limits.{outside}
+use Rattle.poly.specs.Causes.{offDegree, codeCauses}
+use Rattle.trial.specs.Number.{encodeNumber, parseNumber}
+use Rattle.trial.specs.Trial.{Trial, encodeHead, encodeBody, encode, parseCodes, parseHead, parseText, parseName, parseEnd}
+use Rattle.trial.specs.Trial.{parseBody, parse}
+use Rattle.trial.specs.Replies.{contentCauses, read, readReply, writeReply}
+
+-- Document 01's content, with the degree, the codes, the powers and the name given.
+abbrev content : ℕ → ℕ → ℕ → List ℕ → List ℕ → Trial
+content n f g powers name =
+    record { head = record { degree = n; f = f; g = g }; powers = powers; forces = 200 ∷ 220 ∷ 240 ∷ 260 ∷ []; name = name }
+
+abbrev rising : List ℕ
+rising = 100 ∷ 110 ∷ 120 ∷ 130 ∷ []
+
+-- The parts of document 01's file.
+abbrev headBytes : List ℕ
+headBytes = 0x01 ∷ 0x02 ∷ 0x07 ∷ 0x05 ∷ []
+
+abbrev powerBytes : List ℕ
+powerBytes = 0x64 ∷ 0x6E ∷ 0x78 ∷ 0x82 ∷ 0x01 ∷ []
+
+abbrev forceBytes : List ℕ
+forceBytes = 0xC8 ∷ 0x01 ∷ 0xDC ∷ 0x01 ∷ 0xF0 ∷ 0x01 ∷ 0x84 ∷ 0x02 ∷ []
+
+abbrev withName : List ℕ → List ℕ
+withName bytes = headBytes ++ powerBytes ++ forceBytes ++ bytes
+
+encoded : encode (content 2 7 5 rising (0x41 ∷ [])) ≡ withName (0x01 ∷ 0x41 ∷ [])
+unfolding encode encodeBody encodeHead encodeNumber
+encoded = refl
+
+-- A file, the room for each list of levels, and the reader's reply.
+record Reading : Type 0 where
+  file : List ℕ
+  room : ℕ
+  reply : Reply
+
+abbrev reading : List ℕ → Reply → Reading
+reading bytes answer = record { file = bytes; room = 64; reply = answer }
+
+abbrev readings : List Reading
+readings =
+    reading (withName (0x01 ∷ 0x41 ∷ [])) (served (2 ∷ 7 ∷ 5 ∷ 18 ∷ 1 ∷ []))
+    ∷ reading (withName (0x28 ∷ replicate 40 0x41)) (served (2 ∷ 7 ∷ 5 ∷ 18 ∷ 40 ∷ []))
+    ∷ record { file = []; room = 63; reply = refused 4 }
+    ∷ reading (0x01 ∷ 0x02 ∷ 0x08 ∷ []) (refused 6)
+    ∷ reading (0x01 ∷ 0x02 ∷ 0x06 ∷ []) (refused 7)
+    ∷ reading (0x01 ∷ 0x02 ∷ 0x07 ∷ 0x03 ∷ []) (refused 6)
+    ∷ reading (0x01 ∷ 0x02 ∷ 0x07 ∷ 0x04 ∷ []) (refused 7)
+    ∷ reading (0x01 ∷ 0x02 ∷ 0x07 ∷ 0x07 ∷ []) (refused 8)
+    ∷ reading [] (refused 9)
+    ∷ reading (withName (0x01 ∷ [])) (refused 9)
+    ∷ reading (replicate 4 0x80) (refused 9)
+    ∷ reading (replicate 5 0x80) (refused 10)
+    ∷ reading (replicate 4 0x80 ++ (0x10 ∷ [])) (refused 10)
+    ∷ reading (0x82 ∷ 0x00 ∷ []) (refused 10)
+    ∷ reading (replicate 4 0xFF ++ (0x0F ∷ [])) (refused 11)
+    ∷ reading (0x02 ∷ []) (refused 11)
+    ∷ reading (0x01 ∷ 0x01 ∷ []) (refused 12)
+    ∷ reading (0x01 ∷ 0x07 ∷ []) (refused 12)
+    ∷ reading (headBytes ++ (0x80 ∷ 0x80 ∷ 0x04 ∷ [])) (refused 13)
+    ∷ reading (headBytes ++ (0x64 ∷ 0x64 ∷ [])) (refused 14)
+    ∷ reading (headBytes ++ powerBytes ++ (0x02 ∷ 0x01 ∷ [])) (refused 14)
+    ∷ reading (withName (0x29 ∷ [])) (refused 15)
+    ∷ reading (withName (0x01 ∷ 0x1F ∷ [])) (refused 16)
+    ∷ reading (withName (0x01 ∷ 0x7F ∷ [])) (refused 16)
+    ∷ reading (withName (0x01 ∷ 0x41 ∷ 0x00 ∷ [])) (refused 17)
+    ∷ []
+
+reads : map (λ c. readReply (length (c .file)) (read (c .room) 64 (c .file))) readings ≡ map (λ c. c .reply) readings
+unfolding read parse parseHead parseCodes parseBody parseName parseText parseEnd parseNumber
+    outside offDegree codeCauses gcd divide bringDown inverse add scale degree
+reads = refl
+
+-- A content, the room for the file, and the writer's reply.
+record Writing : Type 0 where
+  trial : Trial
+  room : ℕ
+  reply : Reply
+
+abbrev writing : ℕ → ℕ → ℕ → List ℕ → List ℕ → Reply → Writing
+writing n f g levels name answer = record { trial = content n f g levels name; room = 19; reply = answer }
+
+abbrev writings : List Writing
+writings =
+    writing 2 7 5 rising (0x41 ∷ []) (served (19 ∷ []))
+    ∷ writing 1 7 5 rising (0x41 ∷ []) (refused 12)
+    ∷ writing 2 8 5 rising (0x41 ∷ []) (refused 6)
+    ∷ writing 2 6 5 rising (0x41 ∷ []) (refused 7)
+    ∷ writing 2 7 3 rising (0x41 ∷ []) (refused 6)
+    ∷ writing 2 7 4 rising (0x41 ∷ []) (refused 7)
+    ∷ writing 2 7 7 rising (0x41 ∷ []) (refused 8)
+    ∷ writing 2 7 5 (100 ∷ 110 ∷ 120 ∷ []) (0x41 ∷ []) (refused 4)
+    ∷ writing 2 7 5 (100 ∷ 110 ∷ 110 ∷ 130 ∷ []) (0x41 ∷ []) (refused 14)
+    ∷ writing 2 7 5 rising (replicate 41 0x41) (refused 15)
+    ∷ writing 2 7 5 rising (0x7F ∷ []) (refused 16)
+    ∷ writing 2 7 5 rising (0x41 ∷ 0x42 ∷ []) (refused 4)
+    ∷ []
+
+writes : map (λ c. writeReply (c .trial) (c .room)) writings ≡ map (λ c. c .reply) writings
+unfolding writeReply contentCauses encode encodeBody encodeHead encodeNumber
+    outside offDegree codeCauses gcd divide bringDown inverse add scale degree
+writes = refl

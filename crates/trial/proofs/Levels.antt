@@ -1,0 +1,53 @@
+-- A list of levels is read back from its encoding, and what is read encodes to the bytes that were read: level by level, with the
+-- levels before it, nearest first, put back in front by `reverseAux`.
+use mathlib.Core.Path.{_≡_, refl, ap}
+use Prim.Native.Nat.{ℕ, zero, suc}
+use mathlib.Core.Bool.{false}
+use mathlib.Core.List.{List, [], _∷_, _++_, reverseAux, append-assoc}
+use native.Mathlib.Omega.{arith}
+use lib.ListN.{length}
+use borrow.Author.Tests.{le-ltb, ltb-false}
+use Rattle.trial.specs.Parser.{parsed}
+use Rattle.trial.specs.Number.{AllBelow, encodeNumber, encodeNumbers}
+use Rattle.trial.specs.Levels.{outOfOrder, anyOutOfOrder, levelCauses, parseLevels}
+use Rattle.trial.proofs.Parser.{or-false, Clear}
+use Rattle.trial.proofs.Field.{field-back, with-field}
+
+pub levels-back : (levels before rest : List ℕ) → AllBelow 65536 levels → anyOutOfOrder before levels ≡ false
+    → parseLevels (length levels) before (encodeNumbers levels ++ rest) ≡ parsed (reverseAux before levels) rest
+levels-back [] before rest below ordered = refl
+levels-back (level ∷ levels) before rest below ordered =
+    let o = or-false (outOfOrder before level) _ ordered in
+    let b = below 0 in
+    let clear : Clear (levelCauses before level) = (le-ltb 65535 level (omega arith), (o .0, tt)) in
+    rw (append-assoc, field-back (levelCauses before) level (encodeNumbers levels ++ rest) (omega arith) clear)
+    (levels-back levels (level ∷ before) rest (λ i. below (suc i)) (o .1))
+
+-- These levels were read behind those before.
+pub record LevelsRead (count : ℕ) (before bytes levels rest : List ℕ) : Type 0 where
+  pub fresh : List ℕ
+  pub whole : reverseAux before fresh ≡ levels
+  pub size : length fresh ≡ count
+  pub ordered : anyOutOfOrder before fresh ≡ false
+  pub low : AllBelow 65536 fresh
+  pub same : encodeNumbers fresh ++ rest ≡ bytes
+
+pub levels-same : (count : ℕ) (before bytes : List ℕ) {levels rest : List ℕ} → AllBelow 256 bytes
+    → parseLevels count before bytes ≡ parsed levels rest → LevelsRead count before bytes levels rest
+levels-same zero before bytes {levels} {rest} below e =
+    record { fresh = []; whole = cc; size = refl; ordered = refl; low = λ i. omega arith; same = cc }
+levels-same (suc count) before bytes {levels} {rest} below e =
+    with-field (levelCauses before) (λ level. parseLevels count (level ∷ before)) bytes below e λ level bytes′ clear same below′ e′.
+    behind level bytes′ clear same (levels-same count (level ∷ before) bytes′ below′ e′)
+  where
+    behind : (level : ℕ) (bytes′ : List ℕ) → Clear (levelCauses before level) → encodeNumber level ++ bytes′ ≡ bytes
+        → LevelsRead count (level ∷ before) bytes′ levels rest → LevelsRead (suc count) before bytes levels rest
+    behind level bytes′ clear same t =
+        record {
+          fresh = level ∷ t .fresh;
+          whole = t .whole;
+          size = ap suc (t .size);
+          ordered = rw (clear .1 .0) (t .ordered);
+          low = elim [ zero ↦ omega (arith, ltb-false 65535 level (clear .0)) | suc i ↦ t .low i ];
+          same = rw (append-assoc, t .same) same;
+        }

@@ -1,0 +1,15 @@
+pub mod Examples
+pub mod Parser
+pub mod Bounds
+pub mod Number
+pub mod Field
+pub mod Levels
+pub mod Trial
+pub mod Codec
+pub mod Groups
+pub mod Told
+pub mod Passes
+pub mod Text
+pub mod Reading
+pub mod Putting
+pub mod Writing

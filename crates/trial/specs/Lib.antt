@@ -1,0 +1,6 @@
+pub mod Parser
+pub mod Number
+pub mod Levels
+pub mod Trial
+pub mod Replies
+pub mod Answers

@@ -1,0 +1,118 @@
+// Lists of levels.
+use crate::numbers::ReadNumber;
+use crate::numbers::put_number;
+use crate::numbers::read_number;
+use crate::numbers::width;
+use reply::Refusal;
+ghost use mathlib.Core.Path.{_≡_};
+ghost use mathlib.Core.List.{[]};
+ghost use mathlib.Core.Bool.{not};
+ghost use Prim.Native.Nat.{_+_, _≤_};
+ghost use lib.ListN.{length, drop};
+ghost use Rattle.trial.specs.Number.{encodeNumbers};
+ghost use Rattle.trial.specs.Levels.{disordered, parseLevels};
+ghost use Rattle.trial.specs.Replies.{over};
+ghost use Rattle.trial.specs.Answers.{Passes, LevelsThere, valuesOf, Puts};
+
+// The position behind what was checked, or what it is refused for.
+pub enum Behind {
+    At(usize),
+    Refused(Refusal),
+}
+
+// Checks so many levels at a position of the file.
+pub fn check_levels(file: &[u8], at: usize, count: usize) -> Behind
+    requires { ⌜ at ≤ length (now file) ⌝ }
+    ensures { λ r. ⌜ Passes (parseLevels count []) (now (file .entry)) at r ⌝ }
+{
+    let mut next = at;
+    let mut least: u32 = 0;
+    let mut i: usize = 0;
+    while i < count {
+        match read_number(file, next) {
+            ReadNumber::Refused(why) => return Behind::Refused(why),
+            ReadNumber::Value(level, behind) => {
+                if 65535 < level {
+                    return Behind::Refused(Refusal::LevelRange);
+                }
+                if level < least {
+                    return Behind::Refused(Refusal::LevelOrder);
+                }
+                least = level + 1;
+                next = behind;
+            }
+        }
+        i += 1;
+    }
+    Behind::At(next)
+}
+
+// Stores so many levels, which were checked at a position of the file, at the front of `out`.
+pub fn store_levels(file: &[u8], at: usize, count: usize, out: &mut [u16])
+    requires { ⌜ LevelsThere (now file) at count (now out) ⌝ }
+    ensures { λ _. ⌜ now (out .exit) ≡ over (valuesOf (parseLevels count [] (drop at (now (file .entry))))) (now (out .entry)) ⌝ }
+{
+    let mut next = at;
+    let mut i: usize = 0;
+    while i < count {
+        match read_number(file, next) {
+            ReadNumber::Refused(_) => return,
+            ReadNumber::Value(level, behind) => {
+                out[i] = (level % 65536) as u16;
+                next = behind;
+            }
+        }
+        i += 1;
+    }
+}
+
+fn wide(level: u16) -> u32
+    ensures { λ r. ⌜ r ≡ level ⌝ }
+{
+    level as u32
+}
+
+// Whether the levels are in order.
+pub fn ordered(levels: &[u16]) -> bool
+    ensures { λ r. ⌜ r ≡ not (disordered (now (levels .entry))) ⌝ }
+{
+    let mut least: u32 = 0;
+    let mut i: usize = 0;
+    while i < levels.len() {
+        let level = wide(levels[i]);
+        if level < least {
+            return false;
+        }
+        least = level + 1;
+        i += 1;
+    }
+    true
+}
+
+// How many bytes the levels take.
+pub fn levels_width(levels: &[u16]) -> usize
+    requires { ⌜ length (now levels) ≤ 64 ⌝ }
+    ensures { λ r. ⌜ (r ≡ length (encodeNumbers (now (levels .entry)))) × (r ≤ 320) ⌝ }
+{
+    let mut total: usize = 0;
+    let mut i: usize = 0;
+    while i < levels.len() {
+        total += width(wide(levels[i]));
+        i += 1;
+    }
+    total
+}
+
+// Puts the levels at a position of `out`, and gives the position behind them.
+pub fn put_levels(out: &mut [u8], at: usize, levels: &[u16]) -> usize
+    requires { ⌜ at + length (encodeNumbers (now levels)) ≤ length (now out) ⌝ }
+    ensures { λ r. ⌜ Puts (now (out .entry)) at (encodeNumbers (now (levels .entry))) r (now (out .exit)) ⌝ }
+{
+    let mut next = at;
+    let mut i: usize = 0;
+    while i < levels.len() {
+        next = put_number(out, next, wide(levels[i]));
+        i += 1;
+    }
+    next
+}
