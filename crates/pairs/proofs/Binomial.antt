@@ -37,7 +37,7 @@ absorption (suc n) (suc k) =
 pub choose-down : (n k : ℕ) → choose n k ≡ choose (suc n) (suc k) * suc k / suc n
 choose-down n k = rw absorption (sym (mul-div-cancel (choose n k) (omega arith)))
 
-neighbours : (n k : ℕ) → choose n k * (n - k) ≡ choose n (suc k) * suc k
+pub neighbours : (n k : ℕ) → choose n k * (n - k) ≡ choose n (suc k) * suc k
 neighbours n k = elim (decLt n k) [
   | yes l ↦ rw (choose-above n k l, choose-above n (suc k) (omega arith), zero-mul (n - k), zero-mul (suc k))
   | no l ↦ let a : ℕ = choose n k in

@@ -73,6 +73,11 @@ listed-compositions (suc n) (suc k) =
 pub length-compositions : (n k : ℕ) → length (compositions (suc n) (suc k)) ≡ choose n k
 length-compositions n k = listed-compositions (suc n) (suc k) .long
 
+pub compositions-count : (n k : ℕ) → 1 ≤ n → 1 ≤ k → length (compositions n k) ≡ choose (n - 1) (k - 1)
+compositions-count zero k h l = absurd (omega arith)
+compositions-count (suc n) zero h l = absurd (omega arith)
+compositions-count (suc n) (suc k) h l = rw (sub-one, sub-one) (length-compositions n k)
+
 -- What the composition at index i is known by.
 pub record CompositionAt (n k i : ℕ) (ds : List ℕ) : Type 0 where
   pub long : length ds ≡ k

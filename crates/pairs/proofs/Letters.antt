@@ -11,14 +11,14 @@ use lib.Dec.{ltb, eqb}
 use lib.Arith.{digits-div}
 use lib.Pow.{pow-pos}
 use borrow.Author.Tests.{lt-ltb, le-ltb}
-use Rattle.pairs.specs.Words.{State, step}
+use Rattle.pairs.specs.Words.{State, step, number}
 use Rattle.pairs.specs.Sequences.{bit}
 use Rattle.pairs.proofs.Valid.{constant}
 use Rattle.pairs.proofs.Words.{count, count-suc, wordAt, wordAt-known, wordRank}
 
-abbrev pub number : List Bool → ℕ
-number [] = 0
-number (l ∷ w) = bit l * 2 ^ length w + number w
+number-cons : (l : Bool) (w : List Bool) → number (l ∷ w) ≡ bit l * 2 ^ length w + number w
+number-cons false w = simp (zero-mul, zero-add)
+number-cons true w = simp one-mul
 
 -- The last m letters of a number.
 abbrev pub letters : ℕ → ℕ → List Bool
@@ -31,8 +31,8 @@ length-letters (suc m) x = ap suc (length-letters m x)
 
 pub number-lt : (w : List Bool) → number w < 2 ^ length w
 number-lt [] = omega arith
-number-lt (false ∷ w) = omega (arith, pow-suc 2 (length w), zero-mul (2 ^ length w), number-lt w)
-number-lt (true ∷ w) = omega (arith, pow-suc 2 (length w), one-mul (2 ^ length w), number-lt w)
+number-lt (false ∷ w) = omega (arith, pow-suc 2 (length w), number-lt w)
+number-lt (true ∷ w) = omega (arith, pow-suc 2 (length w), number-lt w)
 
 -- Digits above the m letters do not matter.
 letters-above : (m c x : ℕ) → letters m (c * 2 ^ m + x) ≡ letters m x
@@ -49,7 +49,8 @@ constant-bit true = refl
 pub letters-number : (w : List Bool) → letters (length w) (number w) ≡ w
 letters-number [] = refl
 letters-number (l ∷ w) =
-    rw (digits-div (bit l) (number-lt w), letters-above (length w) (bit l) (number w)) (ap₂ _∷_ (constant-bit l) (letters-number w))
+    rw (number-cons l w, digits-div (bit l) (number-lt w), letters-above (length w) (bit l) (number w))
+    (ap₂ _∷_ (constant-bit l) (letters-number w))
 
 -- The number read letter by letter, x so far.
 abbrev pub numberFrom : ℕ → List Bool → ℕ
@@ -60,7 +61,13 @@ pub numberFrom-is : (x : ℕ) (w : List Bool) → numberFrom x w ≡ x * 2 ^ len
 numberFrom-is x [] = omega (arith, mul-one x)
 numberFrom-is x (l ∷ w) =
     numberFrom-is (x * 2 + bit l) w
-    ∙ omega (arith, add-mul (x * 2) (bit l) (2 ^ length w), mul-assoc x 2 (2 ^ length w), ap (λ v. x * v) (pow-succ' 2 (length w)))
+    ∙ omega (
+      arith,
+      number-cons l w,
+      add-mul (x * 2) (bit l) (2 ^ length w),
+      mul-assoc x 2 (2 ^ length w),
+      ap (λ v. x * v) (pow-succ' 2 (length w)),
+    )
 
 -- The number of the word at index i, read from a state on.
 abbrev pub wordNumber : State → ℕ → ℕ → ℕ
@@ -71,12 +78,12 @@ wordNumber s (suc m) i =
     let with1 : ℕ = 2 ^ m + wordNumber (step s true) m (i - zeros) in
     cond (ltb i zeros) with0 with1
 
-wordNumber-is : (s : State) (m i : ℕ) → i < count s m → wordNumber s m i ≡ number (wordAt s m i)
+pub wordNumber-is : (s : State) (m i : ℕ) → i < count s m → wordNumber s m i ≡ number (wordAt s m i)
 wordNumber-is s zero i h = refl
 wordNumber-is s (suc m) i h = elim (decLt i (count (step s false) m)) [
-  | yes l ↦ rw (lt-ltb i (count (step s false) m) l, zero-mul, zero-add) (wordNumber-is (step s false) m i l)
+  | yes l ↦ rw (lt-ltb i (count (step s false) m) l) (wordNumber-is (step s false) m i l)
   | no l ↦ let i′ : ℕ = i - count (step s false) m in let h′ : i′ < count (step s true) m = omega (arith, count-suc s m) in
-      rw (le-ltb i (count (step s false) m) (omega arith), one-mul, wordAt-known (step s true) m i′ h′ .long)
+      rw (le-ltb i (count (step s false) m) (omega arith), wordAt-known (step s true) m i′ h′ .long)
       (ap (λ v. 2 ^ m + v) (wordNumber-is (step s true) m i′ h′))
 ]
 

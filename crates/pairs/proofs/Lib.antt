@@ -3,6 +3,7 @@ pub mod Entries
 pub mod Loops
 pub mod Words
 pub mod Letters
+pub mod Reading
 pub mod Binomial
 pub mod Compositions
 pub mod Quotients
@@ -12,6 +13,8 @@ pub mod Length
 pub mod Pairs
 pub mod Walk
 pub mod PairWalk
+pub mod Bounds
+pub mod Turns
 pub mod Constants
 pub mod Sequence
 pub mod Standing

@@ -44,12 +44,15 @@ pairWalk (suc g) p i b (l ∷ w) product rs =
     let plus : Pair = pairWalk g p (i - parts (suc g) p) (b % 2 ^ (g - p)) (l ∷ w) (append product (b / 2 ^ (g - p)) (rs .f)) rs in
     cond (ltb i (parts (suc g) p)) comma plus
 
--- The pair at place r of the block of k quotients: the walk from (1, 0), then the last quotient 1.
-unfoldable pub pairIn : ℕ → ℕ → ℕ → Pair
-pairIn n k r =
+-- The walk from (1, 0) at place r of the block of k quotients: the pair before the last quotient 1.
+unfoldable pub walkIn : ℕ → ℕ → ℕ → Pair
+walkIn n k r =
     let c : ℕ = r / count s10 k in
-    let t : Pair = pairWalk (n - 1) (k - 1) (c / 2 ^ (n - k)) (c % 2 ^ (n - k)) (wordAt s10 k (r % count s10 k)) 1 start in
-    shift (t .f) t
+    pairWalk (n - 1) (k - 1) (c / 2 ^ (n - k)) (c % 2 ^ (n - k)) (wordAt s10 k (r % count s10 k)) 1 start
+
+-- The pair at that place.
+unfoldable pub pairIn : ℕ → ℕ → ℕ → Pair
+pairIn n k r = shift (walkIn n k r .f) (walkIn n k r)
 
 -- The pair at position j: the number of quotients is found by subtracting the blocks before.
 unfoldable pub pairAt : ℕ → ℕ → Pair
@@ -94,7 +97,7 @@ unfolding turn shift
 last-turn t = rw (Ring.one-mul 2 (le-refl 2))
 
 pub build-walk : (n k r : ℕ) → 1 ≤ k → r < blockSize n k → build (blockAt n k r) ≡ pairIn n k r
-unfolding build pairIn
+unfolding build pairIn walkIn
 build-walk n k r pos h =
     ap (λ qs. turn (turns start qs) 1) (blockAt-walk n k r pos h)
     ∙ ap (λ t. turn t 1) (sym (rw (Ring.one-mul 2 (le-refl 2)) at (pairWalk-is (n - 1) (k - 1) (c / M) (c % M) w 1 start small)))

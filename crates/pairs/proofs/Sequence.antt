@@ -120,7 +120,7 @@ module _ (n : ℕ) (qs : List ℕ) (v : Valid n qs) where
 -- ---- the chain of a coprime pair is a valid sequence that builds it
 
 -- the chain behind the first quotient, 1
-abbrev later : Pair → Chain
+abbrev pub later : Pair → Chain
 later pair = chain 2 (pair .g) (add 2 (pair .f) (pair .g))
 
 unfoldable pub sequenceOf : Pair → List ℕ

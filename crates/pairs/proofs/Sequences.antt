@@ -89,7 +89,7 @@ pub record Once (n : ℕ) (qs : List ℕ) : Type 0 where
   pub stands : getD (sequences n) position [] ≡ qs
   pub only : (j : ℕ) → j < length (sequences n) → getD (sequences n) j [] ≡ qs → j ≡ position
 
-pub valid-once : (n : ℕ) (qs : List ℕ) → Valid n qs → Once n qs
+unfoldable pub valid-once : (n : ℕ) (qs : List ℕ) → Valid n qs → Once n qs
 valid-once n qs v = record {
   position = sequenceRank n qs;
   below = sequenceRank-lt n qs v;

@@ -2,22 +2,25 @@
 use mathlib.Core.Bool.{false, _&&_, and-false}
 use mathlib.Core.List.{List, [], _∷_, reverse, reverse-reverse, tail-eq-of-cons-eq}
 use mathlib.Core.Path.{_≡_, refl, sym, ap, _∙_}
-use Prim.Native.Nat.{ℕ, zero, suc, _≤_, _<_}
+use Prim.Native.Nat.{ℕ, zero, suc, _%_, _≤_, _<_}
 use native.Mathlib.Nat.{lt-trans}
 use native.Mathlib.Decide.{ℕ-discrete}
 use native.Mathlib.Omega.{arith}
 use borrow.Author.Tests.{eq-eqb, ne-eqb}
 use lib.Dec.{eqb}
 use lib.ListN.{length, getD, length-map}
+use Rattle.poly.specs.Code.{HasDegree}
+use Rattle.poly.specs.Coprime.{gcd}
+use Rattle.poly.proofs.Binary.{coprime-one}
 use Rattle.euclid.specs.Chain.{Chain, Pair, chain}
 use Rattle.pairs.specs.Sequences.{sequences}
 use Rattle.pairs.specs.Pairs.{build, pairs, start, CoprimePair}
 use Rattle.pairs.specs.Replies.{indexOf}
 use Rattle.pairs.specs.Claims.{Stands, ListClaim}
 use Rattle.pairs.proofs.Valid.{Valid}
-use Rattle.pairs.proofs.Sequences.{sequenceAt-is, sequences-valid, valid-once}
+use Rattle.pairs.proofs.Sequences.{sequenceRank, sequenceAt-is, sequences-valid, valid-once}
 use Rattle.pairs.proofs.Pairs.{pairAt-is, length-pairs}
-use Rattle.pairs.proofs.Sequence.{sequenceOf, valid-chain, valid-pair, sequence-builds, sequence-valid}
+use Rattle.pairs.proofs.Sequence.{later, sequenceOf, whole, valid-chain, valid-pair, sequence-builds, sequence-valid}
 
 -- the list of pairs is as long as the list of sequences, and has its pair at each position
 same-length : (n : ℕ) → length (pairs n) ≡ length (sequences n)
@@ -78,6 +81,24 @@ pub index-stands : (n : ℕ) (pair : Pair) (s : Stands n pair) → indexOf (pair
 index-stands n pair s =
     index-is (pair .f) (pair .g) (pairs n) (s .position) (s .below) (s .there)
     (λ i l e. omega (arith, s .only i (lt-trans l (s .below)) e))
+
+-- the position by the rank of the chain's sequence
+rank-stands : (n : ℕ) (pos : 1 ≤ n) (pair : Pair) (c : CoprimePair n pair)
+    → coprime-stands n pos pair c .position ≡ sequenceRank n (sequenceOf pair)
+unfolding coprime-stands valid-once
+rank-stands n pos pair c = refl
+
+pub standing : (n f g : ℕ) → 1 ≤ n → HasDegree 2 n f → HasDegree 2 n g → f % 2 ≡ 1 → g % 2 ≡ 1 → gcd 2 f g ≡ 1
+    → (rs : List ℕ) → chain 2 f g .quotients ≡ 1 ∷ rs
+    → Valid n (reverse rs) × (indexOf f g (pairs n) ≡ sequenceRank n (reverse rs))
+unfolding sequenceOf
+standing n f g pos hf hg of og one rs is =
+    let pair : Pair = record { f = f; g = g } in
+    let c : CoprimePair n pair =
+    record { degree-f = hf; degree-g = hg; odd-f = of; odd-g = og; coprime = coprime-one f g .1 one } in
+    let same : rs ≡ later pair .quotients = tail-eq-of-cons-eq (sym is ∙ ap (λ (v : Chain). v .quotients) (whole n pair c)) in
+    rw same
+    (sequence-valid n pair c pos, index-stands n pair (coprime-stands n pos pair c) ∙ rank-stands n pos pair c)
 
 pub list-complete : ListClaim
 list-complete n pos =

@@ -19,11 +19,13 @@ abbrev pub foundReply : Found → Reply
 foundReply (Codes f g) = served (f ∷ g ∷ [])
 foundReply (Refused refusal) = refused (numberOf refusal)
 
+abbrev pub pairReply : Pair → Reply
+pairReply pair = served (pair .f ∷ pair .g ∷ [])
+
 -- The pair at a position; 2, position not below the list's length.
 unfoldable pub pairAtReply : ℕ → ℕ → Reply
 pairAtReply n position =
-    let pair : Pair = getD (pairs n) position start in
-    unless (degreeCause n ∷ leb (listLength n) position gives 2 ∷ []) (served (pair .f ∷ pair .g ∷ []))
+    unless (degreeCause n ∷ leb (listLength n) position gives 2 ∷ []) (pairReply (getD (pairs n) position start))
 
 -- Where a pair stands in a list, counted from 0.
 abbrev pub indexOf : ℕ → ℕ → List Pair → ℕ

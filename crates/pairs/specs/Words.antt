@@ -1,7 +1,8 @@
 -- Constant words (document 01, "Words"). A letter is a constant term: false is 0, true is 1.
-use Prim.Native.Nat.{ℕ, zero, suc}
+use Prim.Native.Nat.{ℕ, zero, suc, _+_, _^_}
 use mathlib.Core.Bool.{Bool, true, false}
 use mathlib.Core.List.{List, [], _∷_, _++_, map}
+use lib.ListN.{length}
 use Rattle.pairs.specs.Loops.{filter}
 
 -- The constant terms of the two remainders: (1,0), (1,1), (0,1).
@@ -49,3 +50,9 @@ wordsFrom s m = filter (leads s) (allWords m)
 -- The kept words of k letters.
 abbrev pub words : ℕ → List (List Bool)
 words k = wordsFrom s10 k
+
+-- A word as a binary number, first letter highest.
+abbrev pub number : List Bool → ℕ
+number [] = 0
+number (false ∷ w) = number w
+number (true ∷ w) = 2 ^ length w + number w

@@ -1,15 +1,17 @@
 -- What a test of a number tells of document 01's causes: whether a degree is outside its range, and whether a code has degree n.
 use mathlib.Core.Bool.{Bool, true, false, _||_, or-true, true≢false}
-use mathlib.Core.List.{List, _++_}
+use mathlib.Core.List.{List, [], _∷_, _++_}
 use mathlib.Core.Path.{_≡_, refl, sym, _∙_}
-use Prim.Native.Nat.{ℕ, suc, _%_, _^_, _≤_, _<_}
+use Prim.Native.Nat.{ℕ, suc, _-_, _%_, _^_, _≤_, _<_}
+use native.Mathlib.Nat.{pow-le-pow-right}
 use native.Mathlib.Decide.{decLt}
 use native.Mathlib.Omega.{arith}
-use lib.Dec.{leb, ltb, eqb}
+use lib.Dec.{leb, ltb, eqb, lit<}
 use borrow.Author.Tests.{lt-ltb, le-ltb, le-leb, lt-leb, ltb-false, leb-false, eqb-false}
 use Rattle.poly.specs.Code.{HasDegree}
-use Rattle.poly.specs.Limits.{outside}
-use Rattle.reply.specs.Reply.{Cause}
+use Rattle.poly.specs.Limits.{outside, listLength}
+use Rattle.poly.specs.Replies.{lengthReply}
+use Rattle.reply.specs.Reply.{Cause, served, refused}
 use Rattle.reply.proofs.Order.{NoneApplies}
 use Rattle.poly.specs.Causes.{offDegree, codeCauses}
 
@@ -72,3 +74,23 @@ pub passed-codes : (n f g : ℕ) (more : List Cause) → NoneApplies (codeCauses
 unfolding codeCauses
 passed-codes n f g more (df, (of, (dg, (og, rest)))) =
     record { degree-f = has-degree df; odd-f = odd f of; degree-g = has-degree dg; odd-g = odd g og }
+
+-- ---- what the length's reply tells of the degree
+pub length-served : (n : ℕ) {length : ℕ} → served (length ∷ []) ≡ lengthReply n → (outside 1 31 n ≡ false) × (length ≡ listLength n)
+length-served n {length} h = go (outside 1 31 n) refl
+  where
+    go : (b : Bool) → outside 1 31 n ≡ b → (outside 1 31 n ≡ false) × (length ≡ listLength n)
+    go true e = absurd (let r = rw e at h in let z : _≡_ {A = ℕ} 0 1 = cc in omega arith)
+    go false e = let r = rw e at h in (e, cc)
+
+pub length-refused : (n : ℕ) {k : ℕ} → refused k ≡ lengthReply n → outside 1 31 n ≡ true
+length-refused n {k} h = go (outside 1 31 n) refl
+  where
+    go : (b : Bool) → outside 1 31 n ≡ b → outside 1 31 n ≡ true
+    go true e = e
+    go false e = absurd (let r = rw e at h in let z : _≡_ {A = ℕ} 0 1 = cc in omega arith)
+
+pub list-length-lt : (n : ℕ) → n ≤ 31 → listLength n < 2 ^ 61
+list-length-lt n h =
+    let top : 4 ^ (n - 1) ≤ 4 ^ 30 = pow-le-pow-right (lit< tt) {i = n - 1} {j = 30} (omega arith) in
+    omega arith

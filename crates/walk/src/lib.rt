@@ -1,5 +1,10 @@
 // A walk through the list of a degree: start, look, draw.
+use pairs::Found;
+use poly::Count;
+use poly::Degree;
 use reply::Refusal;
+ghost use mathlib.Core.Path.{_≡_};
+ghost use Rattle.walk.specs.Walks.{startedReply, startReply, nextReply, lookReply, afterDraw};
 
 // Document 01's walk record.
 #[repr(C)]
@@ -25,4 +30,65 @@ pub enum Next {
 pub struct Drawn {
     pub answer: Next,
     pub walk: Walk,
+}
+
+pub fn start(n: u32) -> Started
+    ensures { λ r. ⌜ startedReply r ≡ startReply n ⌝ }
+{
+    if (Degree { n }).outside() {
+        return Started::Refused(Refusal::DegreeRange);
+    }
+    Started::Walk(Walk {
+        degree: n,
+        position: 0,
+    })
+}
+
+impl Walk {
+    // The pair at the record's position; spent at the list's end.
+    pub fn look(self) -> Next
+        ensures { λ r. ⌜ nextReply r ≡ lookReply self ⌝ }
+    {
+        let n = self.degree;
+        let position = self.position;
+        match (Degree { n }).list_length() {
+            Count::Refused(_) => Next::Refused(Refusal::WalkRecord),
+            Count::Is(length) => {
+                if length < position {
+                    return Next::Refused(Refusal::WalkRecord);
+                }
+                if length == position {
+                    return Next::Spent;
+                }
+                match pairs::pair_at(n, position) {
+                    Found::Codes(f, g) => Next::Codes(f, g),
+                    Found::Refused(refusal) => Next::Refused(refusal),
+                }
+            }
+        }
+    }
+
+    // The same, and the record moved on by one where it gives a pair.
+    pub fn drawn(self) -> Drawn
+        ensures { λ r. ⌜ (nextReply (r .answer) ≡ lookReply self) × (r .walk ≡ afterDraw self) ⌝ }
+    {
+        let answer = self.look();
+        match answer {
+            Next::Codes(f, g) => Drawn {
+                answer: Next::Codes(f, g),
+                walk: Walk {
+                    degree: self.degree,
+                    position: self.position + 1,
+                },
+            },
+            Next::Spent => Drawn {
+                answer: Next::Spent,
+                walk: self,
+            },
+            Next::Refused(refusal) => Drawn {
+                answer: Next::Refused(refusal),
+                walk: self,
+            },
+        }
+    }
 }

@@ -1,0 +1,190 @@
+-- `seek` meets its contract. The invariant: what stands at the place, counted from block k on, is what stands at the position.
+use mathlib.Core.List.{List, []}
+use mathlib.Core.Path.{_≡_, refl, sym, ap, _∙_}
+use Prim.Native.Nat.{ℕ, zero, suc, _+_, _-_, _*_, _/_, _^_, _≤_, _<_}
+use native.Mathlib.Nat.{suc-sub-suc}
+use native.Mathlib.Numerals.{add-one}
+use native.Mathlib.Omega.{arith}
+use borrow.Author.Tests.{lt-ltb, le-ltb}
+use lib.ListN.{length, getD}
+use Rattle.pairs.specs.Sequences.{compositions, block}
+use Rattle.pairs.specs.Pairs.{start, build, pairs}
+use Rattle.pairs.specs.Replies.{pairReply}
+use Rattle.pairs.proofs.Loops as loops
+use Rattle.pairs.proofs.Binomial.{choose, neighbours, choose-next}
+use Rattle.pairs.proofs.Compositions.{compositions-count}
+use Rattle.pairs.proofs.Blocks.{blockSize, blockAt, listed-block}
+use Rattle.pairs.proofs.Sequences.{sequenceAt}
+use Rattle.pairs.proofs.Pairs.{length-blocks, pairAt-is}
+use Rattle.pairs.proofs.Bounds.{choose-times-lt}
+use Rattle.pairs.proofs.pair.seek.Statement.{statement}
+use Rattle.pairs.proofs.pair.seek.Tie as tie
+
+-- what stands at a place of the m blocks from block k on
+abbrev at : ℕ → ℕ → ℕ → ℕ → List ℕ
+at n k m place = loops.seek (blockSize n) (blockAt n) [] k m place
+
+record Seeking (n position k count place : ℕ) : Type 0 where
+  few : n ≤ 31
+  low : 2 ≤ k
+  high : k ≤ n
+  parts : count ≡ length (compositions n k)
+  inside : place < loops.before (blockSize n) k (suc n - k)
+  is : at n k (suc n - k) place ≡ sequenceAt n position
+
+choose-one : (n : ℕ) → choose n 1 ≡ n
+choose-one zero = refl
+choose-one (suc n) = omega (arith, choose-one n)
+
+module _ (n position : ℕ) (fits : position < length (pairs n)) where
+  inside : position < loops.before (blockSize n) 2 (n - 1)
+  inside = rw length-blocks at fits
+
+  two : 2 ≤ n
+  two = go n inside
+    where
+      go : (n : ℕ) → position < loops.before (blockSize n) 2 (n - 1) → 2 ≤ n
+      go zero h = absurd (omega arith)
+      go (suc zero) h = absurd (omega arith)
+      go (suc (suc n)) h = omega arith
+
+  begins : n ≤ 31 → Seeking n position 2 (n - 1) position
+  unfolding sequenceAt
+  begins few =
+      let m : suc n - 2 ≡ n - 1 = omega arith in
+      record {
+        few = few;
+        low = omega arith;
+        high = two;
+        parts = sym (compositions-count n 2 (omega (arith, two)) (omega arith) ∙ choose-one (n - 1));
+        inside = rw m inside;
+        is = rw m;
+      }
+
+some : (size : ℕ → ℕ) (a m j : ℕ) → j < loops.before size a m → 0 < m
+some size a zero j h = absurd (omega arith)
+some size a (suc m) j h = omega arith
+
+module _ {n position k count place : ℕ} (h : Seeking n position k count place) where
+  down : n - 1 - (k - 1) ≡ n - k
+  down = omega (arith, h .low)
+
+  up : suc (k - 1) ≡ k
+  up = omega (arith, h .low)
+
+  parts-are : count ≡ choose (n - 1) (k - 1)
+  parts-are = h .parts ∙ compositions-count n k (omega (arith, h .low, h .high)) (omega (arith, h .low))
+
+  product-fits : count * (n - k) < 2 ^ 32
+  product-fits = rw (parts-are, (rw (down, up) at (neighbours (n - 1) (k - 1)))) (choose-times-lt (n - 1) k (omega (arith, h .few)))
+
+  parts-next : count * (n - k) / k ≡ length (compositions n (suc k))
+  parts-next =
+      let back : suc k - 1 ≡ k = omega arith in
+      rw parts-are (sym (rw (down, up) at (choose-next (n - 1) (k - 1))))
+      ∙ sym (rw back at (compositions-count n (suc k) (omega (arith, h .low, h .high)) (omega arith)))
+
+  blocks : suc n - k ≡ suc (n - k)
+  blocks = omega (arith, h .high)
+
+  -- the block of k quotients, its size s
+  module _ (s : ℕ) (is : s ≡ length (block n k)) where
+    size-is : s ≡ blockSize n k
+    size-is = is ∙ listed-block n k .long
+
+    passes : s ≤ place → Seeking n position (k + 1) (count * (n - k) / k) (place - s)
+    passes le =
+        let all : place < blockSize n k + loops.before (blockSize n) (suc k) (n - k) = rw blocks at (h .inside) in
+        let rest : place - s < loops.before (blockSize n) (suc k) (n - k) = omega (arith, size-is) in
+        rw add-one
+        (record {
+          few = h .few;
+          low = omega (arith, h .low);
+          high = omega (arith, some (blockSize n) (suc k) (n - k) (place - s) rest);
+          parts = parts-next;
+          inside = rw suc-sub-suc rest;
+          is =
+              rw (suc-sub-suc n k, size-is) (sym (rw (le-ltb place (blockSize n k) (omega (arith, size-is)))))
+              ∙ rw blocks at (h .is);
+        })
+
+    ends : position < length (pairs n) → place < s
+        → pairReply (build (getD (block n k) place [])) ≡ pairReply (getD (pairs n) position start)
+    ends fits lt =
+        let l : place < blockSize n k = rw size-is at lt in
+        let here : at n k (suc n - k) place ≡ blockAt n k place = rw (blocks, lt-ltb place (blockSize n k) l) in
+        ap (λ qs. pairReply (build qs)) (listed-block n k .stands place l ∙ sym here ∙ h .is)
+        ∙ ap pairReply (sym (pairAt-is n position start fits))
+
+abbrev Inv-loop : tie.InvT-loop
+Inv-loop n position k₀ count₀ place₀ size₀ k count place size = Seeking n position k count place × (size ≡ length (block n k))
+
+abbrev μ-loop : tie.MeasureT-loop
+μ-loop n position k₀ count₀ place₀ size₀ k count place size = n - k
+
+sub-count : tie.Need-sub-count Inv-loop μ-loop
+sub-count c = omega (arith, two (c .args .n) (c .args .position) (c .pre .1))
+
+block-size-requires : tie.Need-block-size-requires Inv-loop μ-loop
+block-size-requires c κs =
+    let b = begins (c .args .n) (c .args .position) (c .pre .1) (c .pre .0) in
+    (b .low, (b .high, (b .few, b .parts)))
+
+loop-holds : tie.Need-loop-holds Inv-loop μ-loop
+loop-holds c = (begins (c .before .args .n) (c .before .args .position) (c .before .pre .1) (c .before .pre .0), c .block-size .ensures)
+
+next : (c : tie.In-loop Inv-loop μ-loop)
+    → Seeking (c .before .before .before .args .n) (c .before .before .before .args .position) (c .before .loop .k + 1)
+    (c .before .loop .count * (c .before .before .before .args .n - c .before .loop .k) / c .before .loop .k)
+    (c .before .loop .place - c .before .loop .size)
+next c = passes (c .before .loop .inv .0) (c .before .loop .size) (c .before .loop .inv .1) (c .loop-test .taken)
+
+sub-count-2 : tie.Need-sub-count-2 Inv-loop μ-loop
+sub-count-2 c = c .before .loop .inv .0 .high
+
+mul-count : tie.Need-mul-count Inv-loop μ-loop
+mul-count c = record { fits = product-fits (c .before .loop .inv .0) }
+
+div-count : tie.Need-div-count Inv-loop μ-loop
+div-count c = omega (arith, c .before .loop .inv .0 .low)
+
+add-k : tie.Need-add-k Inv-loop μ-loop
+add-k c = record { fits = omega (arith, c .before .loop .inv .0 .high, c .before .loop .inv .0 .few) }
+
+block-size-requires-2 : tie.Need-block-size-requires-2 Inv-loop μ-loop
+block-size-requires-2 c κs = let p = next c in (p .low, (p .high, (p .few, p .parts)))
+
+loop-less : tie.Need-loop-less Inv-loop μ-loop
+loop-less c = omega (arith, next (c .before) .high)
+
+loop-again : tie.Need-loop-again Inv-loop μ-loop
+loop-again c = (next (c .before), c .block-size2 .ensures)
+
+pair-in-requires : tie.Need-pair-in-requires Inv-loop μ-loop
+pair-in-requires c κs =
+    let b = c .before .loop .inv .0 in
+    (b .low, (b .high, (b .few, (b .parts, rw (c .before .loop .inv .1) at (c .loop-test .left)))))
+
+returns : tie.Need-returns Inv-loop μ-loop
+returns c =
+    let (seeking, size) = c .before .before .loop .inv in
+    c .pair-in .ensures ∙ ends seeking _ size (c .before .before .before .before .pre .1) (c .before .loop-test .left)
+
+pub seek-spec : {M : Type 1} → statement M
+seek-spec =
+    tie.close
+    (tie.spec
+    Inv-loop
+    μ-loop
+    sub-count
+    block-size-requires
+    loop-holds
+    sub-count-2
+    mul-count
+    div-count
+    add-k
+    block-size-requires-2
+    loop-less
+    loop-again
+    pair-in-requires
+    returns)
