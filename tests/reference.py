@@ -1,5 +1,8 @@
 #!/usr/bin/env python3
-"""The values that the crate compare must print, computed another way: polynomials are sets of exponents here, not codes."""
+"""The values that the crate compare must print, computed another way: polynomials are sets of exponents, lists of pairs are filtered by
+plain Euclid and sorted by the key that document 01's order gives, and sites are worked cell by cell. Run it to make crates/compare/stdout."""
+
+from math import comb
 
 
 def exponents(code):
@@ -34,26 +37,167 @@ def refusal(n, a):
     return 0 if 0 in a else 7
 
 
+def chain(f, g):
+    """The quotients of Euclid's algorithm and the last divisor, on codes as whole numbers for speed."""
+    quotients = []
+    while g:
+        quotient, top = 0, g.bit_length()
+        while f.bit_length() >= top:
+            shift = f.bit_length() - top
+            quotient |= 1 << shift
+            f ^= g << shift
+        quotients.append(quotient)
+        f, g = g, f
+    return quotients, f
+
+
+def key(quotients):
+    """Document 01's order: the number of quotients, their degrees, the intermediate bits as one number, the constant terms."""
+    sequence = quotients[:0:-1]
+    degrees = [q.bit_length() - 1 for q in sequence]
+    bits = "".join(format(q, "b")[1:-1] for q in sequence)
+    return len(sequence), degrees, int(bits or "0", 2), [q & 1 for q in sequence]
+
+
+def coprime_pairs(n):
+    odd = range(2**n + 1, 2 ** (n + 1), 2)
+    found = []
+    for f in odd:
+        for g in odd:
+            quotients, divisor = chain(f, g)
+            if divisor == 1:
+                found.append((key(quotients), f, g))
+    found.sort()
+    return [(f, g) for _, f, g in found]
+
+
+def symbol(n, f, row, col):
+    cells = [row >> (n - 1 - i) & 1 for i in range(n)] + [col >> (n - 1 - i) & 1 for i in range(n)]
+    out = 0
+    for i in range(n):
+        out = out * 2 + sum((f >> j & 1) * cells[i + j] for j in range(n + 1)) % 2
+    return out
+
+
 def generator(state=1):
     while True:
-        yield state % 2**32 >> state % 32
+        yield state, state % 2**32 >> state % 32
         state = (state * 1664525 + 1013904223) % 2**32
 
 
-def mixed(total, value):
-    return (total * 31 + value % 2**32 + value // 2**32) % 2**32
+def mixed(total, *values):
+    for value in values:
+        total = (total * 31 + value % 2**32 + value // 2**32) % 2**32
+    return total
 
 
 def arithmetic():
     total, draws = 0, generator()
     for _ in range(20000):
-        a_code, b_code = next(draws), next(draws)
+        (_, a_code), (_, b_code) = next(draws), next(draws)
         a, b = exponents(a_code), exponents(b_code)
         quotient, rest = divided(a, b)
-        values = [code_of(times(a, b)), code_of(quotient), code_of(rest), max(a, default=0), refusal(b_code % 33, a)]
-        for value in values:
-            total = mixed(total, value)
+        total = mixed(total, code_of(times(a, b)), code_of(quotient), code_of(rest), max(a, default=0), refusal(b_code % 33, a))
     return total
 
 
-print(arithmetic())
+def pair_of(n, first, second):
+    """Two odd codes of degree n from two numbers."""
+    return 2**n + first % 2**n | 1, 2**n + second % 2**n | 1
+
+
+def chains():
+    total, draws = 0, generator(7)
+    for i in range(5000):
+        n = i % 31 + 1
+        f, g = pair_of(n, next(draws)[0], next(draws)[0])
+        quotients, divisor = chain(f, g)
+        total = mixed(total, len(quotients), divisor, *quotients)
+    return total
+
+
+def sites():
+    total, draws = 0, generator(11)
+    for i in range(3000):
+        n = i % 31 + 1
+        f, g = pair_of(n, next(draws)[0], next(draws)[0])
+        row, col = next(draws)[0] % 2**n, next(draws)[0] % 2**n
+        total = mixed(total, symbol(n, f, row, col), symbol(n, g, row, col))
+    return total
+
+
+def sheets():
+    total = 0
+    for n, f, g in [(2, 7, 5), (3, 15, 13), (4, 19, 17), (5, 37, 59), (6, 67, 97)]:
+        for row in range(2**n):
+            for col in range(2**n):
+                total = mixed(total, symbol(n, f, row, col), symbol(n, g, row, col))
+    return total
+
+
+def lists(most):
+    """Degree, length and checksum of each list; up to degree 8, how many positions are found back: all of them."""
+    for n in range(2, most + 1):
+        pairs = coprime_pairs(n)
+        total = 0
+        for f, g in pairs:
+            total = mixed(total, f, g)
+        print(n, len(pairs), total, len(pairs) if n <= 8 else 0)
+
+
+def kept_words(k):
+    """The kept words of k letters, by running the automaton on prefixes; words that cannot end well are as many as any others."""
+    step = {("10", 0): "01", ("10", 1): "11", ("11", 0): "11", ("11", 1): "01", ("01", 0): "10", ("01", 1): "10"}
+    count = {(state, 0): int(state == "10") for state in ("10", "11", "01")}
+    for m in range(1, k + 1):
+        for state in ("10", "11", "01"):
+            count[state, m] = count[step[state, 0], m - 1] + count[step[state, 1], m - 1]
+    return step, count
+
+
+def pair_at(n, position):
+    """The pair at a position by counting choices one after the other: k, each degree, the bits, each letter."""
+    k = 2
+    while True:
+        step, count = kept_words(k)
+        block = comb(n - 1, k - 1) * 2 ** (n - k) * count["10", k]
+        if position < block:
+            break
+        position, k = position - block, k + 1
+    word_index, rest = position % count["10", k], position // count["10", k]
+    bits, index = rest % 2 ** (n - k), rest // 2 ** (n - k)
+    degrees, left = [], n
+    for part in range(k, 1, -1):
+        d = 1
+        while index >= comb(left - d - 1, part - 2):
+            index, d = index - comb(left - d - 1, part - 2), d + 1
+        degrees.append(d)
+        left -= d
+    degrees.append(left)
+    text = format(bits, "b").zfill(n - k) if n > k else ""
+    r, s, state = {0}, set(), "10"
+    for part, d in enumerate(degrees):
+        zeros = count[step[state, 0], k - part - 1]
+        letter = int(word_index >= zeros)
+        word_index -= zeros * letter
+        state = step[state, letter]
+        middle, text = text[: d - 1], text[d - 1 :]
+        r, s = times(exponents(int("1" + middle + str(letter), 2)), r) ^ s, r
+    return code_of(r ^ s), code_of(r)
+
+
+def spread():
+    """A hundred positions spread over the list of degree 31."""
+    total, length = 0, 2 * (4**30 - 1) // 3
+    for i in range(100):
+        total = mixed(total, *pair_at(31, length // 100 * i + i))
+    return mixed(total, *pair_at(31, length - 1))
+
+
+if __name__ == "__main__":
+    print(arithmetic())
+    print(chains())
+    print(sites())
+    print(sheets())
+    lists(12)
+    print(spread(), 101)

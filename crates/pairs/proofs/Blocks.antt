@@ -142,7 +142,7 @@ module _ (n : ℕ) (qs : List ℕ) (v : Valid n qs) where
   room : bits (map (degree 2) qs) + length qs ≡ n
   room = rw (length-map qs (degree 2), v .total) at (bits-total (map (degree 2) qs) (v .positive))
 
-  between-lt : middle qs < 2 ^ (n - length qs)
+  pub between-lt : middle qs < 2 ^ (n - length qs)
   between-lt = let e : bits (map (degree 2) qs) ≡ n - length qs = omega (arith, room) in rw e at (middle-lt qs (v .positive))
 
   word-lt : wordRank s10 (map constant qs) < count s10 (length qs)

@@ -14,7 +14,7 @@ use borrow.Author.Tests.{lt-ltb, le-ltb}
 use Rattle.pairs.specs.Words.{State, step, number}
 use Rattle.pairs.specs.Sequences.{bit}
 use Rattle.pairs.proofs.Valid.{constant}
-use Rattle.pairs.proofs.Words.{count, count-suc, wordAt, wordAt-known, wordRank}
+use Rattle.pairs.proofs.Words.{count, count-suc, wordAt, wordAt-known}
 
 number-cons : (l : Bool) (w : List Bool) → number (l ∷ w) ≡ bit l * 2 ^ length w + number w
 number-cons false w = simp (zero-mul, zero-add)
@@ -24,10 +24,6 @@ number-cons true w = simp one-mul
 abbrev pub letters : ℕ → ℕ → List Bool
 letters zero x = []
 letters (suc m) x = constant (x / 2 ^ m) ∷ letters m x
-
-pub length-letters : (m x : ℕ) → length (letters m x) ≡ m
-length-letters zero x = refl
-length-letters (suc m) x = ap suc (length-letters m x)
 
 pub number-lt : (w : List Bool) → number w < 2 ^ length w
 number-lt [] = omega arith
@@ -86,17 +82,3 @@ wordNumber-is s (suc m) i h = elim (decLt i (count (step s false) m)) [
       rw (le-ltb i (count (step s false) m) (omega arith), wordAt-known (step s true) m i′ h′ .long)
       (ap (λ v. 2 ^ m + v) (wordNumber-is (step s true) m i′ h′))
 ]
-
-pub letters-wordNumber : (s : State) (m i : ℕ) → i < count s m → letters m (wordNumber s m i) ≡ wordAt s m i
-letters-wordNumber s m i h =
-    rw (wordNumber-is s m i h) (rw (wordAt-known s m i h .long) at (letters-number (wordAt s m i)))
-
--- The index of a word, read from a state on.
-pub wordRank-letters : (s : State) (m x : ℕ) → wordRank s (letters (suc m) x)
-    ≡ cond (constant (x / 2 ^ m)) (count (step s false) m + wordRank (step s true) (letters m x)) (wordRank (step s false) (letters m x))
-wordRank-letters s m x = go (constant (x / 2 ^ m))
-  where
-    go : (l : Bool) → wordRank s (l ∷ letters m x)
-        ≡ cond l (count (step s false) m + wordRank (step s true) (letters m x)) (wordRank (step s false) (letters m x))
-    go false = refl
-    go true = rw (length-letters m x)

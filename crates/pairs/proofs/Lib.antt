@@ -18,4 +18,9 @@ pub mod Turns
 pub mod Constants
 pub mod Sequence
 pub mod Standing
+pub mod Ranking
+pub mod Sizes
+pub mod ReadBack
+pub mod Assembly
+pub mod Chained
 pub mod Examples

@@ -62,7 +62,7 @@ nonzero q h = go (eq-zero-or-pos q)
 
 -- One quotient from its code.
 module _ (q : ℕ) (pos : 1 ≤ degree 2 q) where
-  code-has : HasDegree 2 (degree 2 q) q
+  pub code-has : HasDegree 2 (degree 2 q) q
   code-has = degree-has 2 (le-refl 2) (nonzero q pos)
 
   code-middle-lt : (q - 2 ^ degree 2 q) / 2 < 2 ^ (degree 2 q - 1)

@@ -4,3 +4,4 @@ pub mod Sequences
 pub mod Pairs
 pub mod Replies
 pub mod Claims
+pub mod Ranking

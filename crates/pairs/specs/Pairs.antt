@@ -2,6 +2,7 @@
 use mathlib.Core.Path.{_≡_}
 use Prim.Native.Nat.{ℕ, _%_}
 use mathlib.Core.List.{List, [], _∷_, map}
+use lib.ListN.{getD}
 use Rattle.poly.specs.Code.{HasDegree}
 use Rattle.poly.specs.Coprime.{Coprime}
 use Rattle.euclid.specs.Chain.{Pair, back}
@@ -22,6 +23,14 @@ start = record { f = 1; g = 0 }
 unfoldable pub build : List ℕ → Pair
 build qs = turn (turns start qs) 1
 
+-- The list of degree n.
+unfoldable pub pairs : ℕ → List Pair
+pairs n = map build (sequences n)
+
+-- The pair at a position of it, counted from 0.
+abbrev pub entry : ℕ → ℕ → Pair
+entry n j = getD (pairs n) j start
+
 -- An ordered pair of coprime codes of degree n, both with constant term one.
 pub record CoprimePair (n : ℕ) (pair : Pair) : Type 0 where
   pub degree-f : HasDegree 2 n (pair .f)
@@ -29,6 +38,3 @@ pub record CoprimePair (n : ℕ) (pair : Pair) : Type 0 where
   pub odd-f : pair .f % 2 ≡ 1
   pub odd-g : pair .g % 2 ≡ 1
   pub coprime : Coprime 2 (pair .f) (pair .g)
-
-unfoldable pub pairs : ℕ → List Pair
-pairs n = map build (sequences n)

@@ -3,13 +3,12 @@ use Prim.Native.Nat.{ℕ, suc}
 use mathlib.Core.Bool.{cond, _&&_}
 use mathlib.Core.List.{List, [], _∷_, _++_}
 use lib.Dec.{leb, eqb}
-use lib.ListN.{getD}
 use Rattle.reply.specs.Numbers.{numberOf}
 use Rattle.reply.specs.Reply.{Reply, served, refused, unless, _gives_}
 use Rattle.poly.specs.Limits.{listLength}
 use Rattle.poly.specs.Causes.{degreeCause, codeCauses, commonFactor}
 use Rattle.euclid.specs.Chain.{Pair}
-use Rattle.pairs.specs.Pairs.{start, pairs}
+use Rattle.pairs.specs.Pairs.{pairs, entry}
 use Rattle.pairs.specs.declared.answer.Found.{Found}
 use Rattle.pairs.specs.declared.answer.Found.the-variants.{Codes, Refused}
 use Rattle.pairs.specs.declared.answer.Place.{Place}
@@ -19,13 +18,14 @@ abbrev pub foundReply : Found → Reply
 foundReply (Codes f g) = served (f ∷ g ∷ [])
 foundReply (Refused refusal) = refused (numberOf refusal)
 
+-- Both codes.
 abbrev pub pairReply : Pair → Reply
 pairReply pair = served (pair .f ∷ pair .g ∷ [])
 
 -- The pair at a position; 2, position not below the list's length.
 unfoldable pub pairAtReply : ℕ → ℕ → Reply
 pairAtReply n position =
-    unless (degreeCause n ∷ leb (listLength n) position gives 2 ∷ []) (pairReply (getD (pairs n) position start))
+    unless (degreeCause n ∷ leb (listLength n) position gives 2 ∷ []) (pairReply (entry n position))
 
 -- Where a pair stands in a list, counted from 0.
 abbrev pub indexOf : ℕ → ℕ → List Pair → ℕ

@@ -1,26 +1,23 @@
--- Demand 3, whole. Every definition here is one that a public contract equates with a call's answer: `startReply`, `lookReply` and
--- `afterDraw` (through `Walked`) are those of start, look and draw, `pairAtReply` that of the pair call, `siteReply` that of the site call.
+-- Demand 3, whole. It is about what the calls answer: `startReply` is the reply that the contract of start gives, `lookReply` and
+-- `afterDraw`, over which `Walked` runs, are those of look and draw, `pairAtReply`, `positionReply` and `siteReply` those of the pair call, the
+-- position call and the site call. The fields that name them tie the list of pairs and the squares to these calls.
 use mathlib.Core.Logic.{_↔_}
 use mathlib.Core.List.{List, [], _∷_}
 use mathlib.Core.Path.{_≡_}
 use Prim.Native.Nat.{ℕ, _%_, _^_, _≤_, _<_}
-use lib.ListN.{getD}
+use lib.ListN.{length}
 use Rattle.reply.specs.Reply.{served}
 use Rattle.poly.specs.Code.{HasDegree}
 use Rattle.poly.specs.Coprime.{Coprime}
 use Rattle.poly.specs.Limits.{listLength}
 use Rattle.euclid.specs.Chain.{Pair}
-use Rattle.pairs.specs.Pairs.{pairs, start, CoprimePair}
-use Rattle.pairs.specs.Replies.{pairAtReply}
+use Rattle.pairs.specs.Pairs.{pairs, entry, CoprimePair}
+use Rattle.pairs.specs.Replies.{pairReply, pairAtReply, positionReply}
 use Rattle.squares.specs.Squares.{ExactlyOne, Orthogonal}
 use Rattle.squares.specs.Symbols.{symbol}
 use Rattle.squares.specs.Replies.{siteReply}
 use Rattle.walk.specs.Walks.{startReply}
-use Rattle.walk.specs.Calls.{Call, Walked}
-
--- The pair at a position of document 01's order.
-abbrev pub entry : ℕ → ℕ → Pair
-entry n j = getD (pairs n) j start
+use Rattle.walk.specs.Calls.{Call, begun, Walked}
 
 -- A code of degree n with constant term one.
 pub record Polynomial (n code : ℕ) : Type 0 where
@@ -28,13 +25,16 @@ pub record Polynomial (n code : ℕ) : Type 0 where
   pub constant : code % 2 ≡ 1
 
 pub record Demand (n : ℕ) : Type 0 where
-  -- A walk begins at degree n and position 0.
-  pub begins : startReply n ≡ served (n ∷ 0 ∷ [])
-  -- For every list of draws and looks on it: a call with j draws before it gives the pair at position j if j is below L, and says spent
-  -- exactly when j is L or more; none is turned down; and the record afterwards.
+  -- Starting gives the record from which the calls go on.
+  pub begins : startReply n ≡ served (begun n .degree ∷ begun n .position ∷ [])
+  -- For every list of draws and looks on it: a call with j draws before it that were not turned down gives the pair at position j if j is
+  -- below L, and says spent exactly when j is L or more; none is turned down; and the record afterwards.
   pub walk : (calls : List Call) → Walked n calls
-  -- The pair at a position is what the pair call gives.
-  pub pair : (j : ℕ) → j < listLength n → pairAtReply n j ≡ served (entry n j .f ∷ entry n j .g ∷ [])
+  -- L is the length of the list of pairs.
+  pub long : length (pairs n) ≡ listLength n
+  -- The pair at a position is what the pair call gives, and the position call finds it there.
+  pub pair : (j : ℕ) → j < listLength n → pairAtReply n j ≡ pairReply (entry n j)
+  pub found : (j : ℕ) → j < listLength n → positionReply n (entry n j .f) (entry n j .g) ≡ served (j ∷ [])
   -- The pairs at positions 0 to L - 1 are ordered coprime pairs of degree n with both constant terms one ..
   pub no-stranger : (j : ℕ) → j < listLength n → CoprimePair n (entry n j)
   -- .. all of them, once each.

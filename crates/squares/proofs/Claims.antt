@@ -1,10 +1,14 @@
 -- The claims about squares, from their theorems.
-use Rattle.squares.specs.Claims.{LatinClaim, OrthogonalClaim}
+use Rattle.squares.specs.Claims.{LatinClaim, OrthogonalClaim, SheetClaim}
 use Rattle.squares.proofs.Latin.{latin}
 use Rattle.squares.proofs.Orthogonal.{orthogonal-coprime}
+use Rattle.squares.proofs.Served.{sheet-site}
 
 pub squares-latin : LatinClaim
 squares-latin p p2 inverses n f has constant = latin p p2 inverses n has constant
 
 pub squares-orthogonal : OrthogonalClaim
 squares-orthogonal p p2 inverses n f g has-f has-g = orthogonal-coprime p p2 inverses n has-f has-g
+
+pub sheet-laid : SheetClaim
+sheet-laid n f g lent is-served row col = sheet-site n f g lent is-served row col

@@ -68,7 +68,8 @@ module _ (n f g : ℕ) (lent : List ℕ) (is-served : sheetReply n f g (length l
   sheet-site row col hr hc =
       let first = rw (Nat.add-zero (2 * (row * 2 ^ n + col))) at (byte-after row col {j = 0} hr hc (omega arith)) in
       let second = byte-after row col {j = 1} hr hc (omega arith) in
-      site-served row col hr hc ∙ sym (ap₂ (λ (a b : ℕ). served (a ∷ b ∷ [])) first second)
+      site-served row col hr hc
+      ∙ sym (ap₂ (λ (a b : ℕ). served (a ∷ b ∷ [])) first second)
 
   -- both squares are Latin squares, and laid together show each pair of symbols at exactly one site
   pub sheet-squares : Latin (2 ^ n) (symbol 2 n f) × Latin (2 ^ n) (symbol 2 n g) × Orthogonal (2 ^ n) (symbol 2 n f) (symbol 2 n g)

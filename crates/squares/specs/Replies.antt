@@ -22,10 +22,10 @@ abbrev pub symbolsReply : Symbols → Reply
 symbolsReply (Both first second) = served (first ∷ second ∷ [])
 symbolsReply (Refused refusal) = refused (numberOf refusal)
 
--- The site call gives both symbols.
 abbrev pub siteCauses : ℕ → ℕ → ℕ → ℕ → ℕ → List Cause
 siteCauses n f g row col = degreeCause n ∷ codeCauses n f ++ codeCauses n g ++ (offSite n row col gives 5 ∷ [])
 
+-- The site call gives both symbols.
 unfoldable pub siteReply : ℕ → ℕ → ℕ → ℕ → ℕ → Reply
 siteReply n f g row col = unless (siteCauses n f g row col) (served (symbol 2 n f row col ∷ symbol 2 n g row col ∷ []))
 
@@ -33,17 +33,18 @@ abbrev pub laidReply : Laid → Reply
 laidReply Done = served []
 laidReply (Left refusal) = refused (numberOf refusal)
 
--- The sheet call has no values to give: the sheet stands in the lent bytes, of which the reply needs the length alone.
 abbrev pub sheetCauses : ℕ → ℕ → ℕ → ℕ → List Cause
 sheetCauses n f g len =
     sheetDegreeCause n ∷ codeCauses n f ++ codeCauses n g ++ (commonFactor f g ∷ []) ++ (ltb len (2 * 4 ^ n) gives 4 ∷ [])
 
+-- The sheet call has no values to give: the sheet stands in the lent bytes, of which the reply needs the length alone.
 unfoldable pub sheetReply : ℕ → ℕ → ℕ → ℕ → Reply
 sheetReply n f g len = unless (sheetCauses n f g len) (served [])
 
--- The sheet of f and g, of order 2^n, fills the first 2 × 4^n bytes lent; the rest stays.
+-- The sheet of f and g, of order 2^n.
 unfoldable pub sheetOf : ℕ → ℕ → ℕ → List ℕ
 sheetOf n f g = sheet (2 ^ n) (symbol 2 n f) (symbol 2 n g)
 
+-- It fills the first 2 × 4^n bytes lent; the rest stays, and all of them where the call is refused.
 unfoldable pub sheetBytes : ℕ → ℕ → ℕ → List ℕ → List ℕ
 sheetBytes n f g lent = after (sheetReply n f g (length lent)) (sheetOf n f g ++ drop (2 * 4 ^ n) lent) lent

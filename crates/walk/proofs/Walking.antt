@@ -8,19 +8,19 @@ use native.Mathlib.Decide.{decLt}
 use native.Mathlib.Omega.{arith}
 use borrow.Author.Tests.{lt-ltb, le-ltb}
 use lib.ListN.{length, getD, take}
-use Rattle.reply.specs.Reply.{spent, after}
+use Rattle.reply.specs.Reply.{refused, after}
 use Rattle.poly.specs.Limits.{listLength}
 use Rattle.poly.proofs.Ranges.{inside}
 use Rattle.walk.specs.declared.Walk.{Walk}
 use Rattle.walk.specs.Walks.{recordCause, entryReply, lookReply, afterDraw}
-use Rattle.walk.specs.Calls.{Call, look, draw, Answered, next, answers, last, counts, draws, NotRefused, begun, WalkClaim}
+use Rattle.walk.specs.Calls.{Call, look, draw, Answered, next, answers, last, counts, draws, NotRefused, begun, answer, before, WalkClaim}
 
 -- the record after c draws
 abbrev along : ℕ → ℕ → Walk
 along n c = record { degree = n; position = min (listLength n) c }
 
 abbrev none : Answered
-none = record { call = look; reply = spent }
+none = record { call = look; reply = refused 0 }
 
 module _ (n : ℕ) (low : 1 ≤ n) (high : n ≤ 31) where
   -- at the list's end and behind it, the entry is spent
@@ -75,10 +75,6 @@ module _ (n : ℕ) (low : 1 ≤ n) (high : n ≤ 31) where
   along-counts draw c = not-refused c .1
 
   -- ---- the list of calls, from the record after c draws
-  all-answered : (calls : List Call) (walk : Walk) → length (answers walk calls) ≡ length calls
-  all-answered [] walk = refl
-  all-answered (call ∷ calls) walk = ap suc (all-answered calls (next call walk))
-
   each-from : (calls : List Call) (c i : ℕ) → i < length calls
       → getD (answers (along n c) calls) i none .reply ≡ entryReply n (c + draws (take i (answers (along n c) calls)))
   each-from [] c i h = absurd (omega arith)
@@ -95,8 +91,7 @@ module _ (n : ℕ) (low : 1 ≤ n) (high : n ≤ 31) where
   from-start : along n 0 ≡ begun n
   from-start = ap (λ (v : ℕ). record { degree = n; position = v }) (min-zero (listLength n))
 
-  each-begun : (calls : List Call) (i : ℕ) → i < length calls
-      → getD (answers (begun n) calls) i none .reply ≡ entryReply n (draws (take i (answers (begun n) calls)))
+  each-begun : (calls : List Call) (i : ℕ) → i < length calls → answer n calls i ≡ entryReply n (before n calls i)
   each-begun calls i h =
       subst (λ (w : Walk). getD (answers w calls) i none .reply ≡ entryReply n (draws (take i (answers w calls)))) from-start
       (rw zero-add at (each-from calls 0 i h))
@@ -108,10 +103,9 @@ module _ (n : ℕ) (low : 1 ≤ n) (high : n ≤ 31) where
 pub walked : WalkClaim
 walked n low high calls =
     record {
-      answered = all-answered n low high calls (begun n);
-      each = each-begun n low high calls;
-      none-refused =
-          λ i h. rw (each-begun n low high calls i h) (not-refused n low high (draws (take i (answers (begun n) calls))) .0);
+      none-refused = λ i h. rw (each-begun n low high calls i h) (not-refused n low high (before n calls i) .0);
+      pair = λ i h l. each-begun n low high calls i h ∙ rw (lt-ltb (before n calls i) (listLength n) l);
+      spent-at-end = λ i h l. each-begun n low high calls i h ∙ rw (le-ltb (before n calls i) (listLength n) l);
       degree = ap (λ (w : Walk). w .degree) (last-begun n low high calls);
       position = ap (λ (w : Walk). w .position) (last-begun n low high calls);
     }

@@ -5,8 +5,10 @@ use mathlib.Core.List.{List, [], _∷_}
 use lib.ListN.{length, getD, take}
 use Rattle.reply.specs.Reply.{Reply, served, refused, spent}
 use Rattle.poly.specs.Limits.{listLength}
+use Rattle.pairs.specs.Pairs.{entry}
+use Rattle.pairs.specs.Replies.{pairReply}
 use Rattle.walk.specs.declared.Walk.{Walk}
-use Rattle.walk.specs.Walks.{entryReply, lookReply, afterDraw}
+use Rattle.walk.specs.Walks.{lookReply, afterDraw}
 
 pub data Call : Type 0 where
   look : Call
@@ -51,16 +53,21 @@ NotRefused (refused number) = ⊥
 abbrev pub begun : ℕ → Walk
 begun n = record { degree = n; position = 0 }
 
+-- The answer at place i of a list of calls; there is one for each call.
+abbrev pub answer : ℕ → List Call → ℕ → Reply
+answer n calls i = getD (answers (begun n) calls) i (record { call = look; reply = refused 0 }) .reply
+
+-- How many draws before place i were not turned down.
+abbrev pub before : ℕ → List Call → ℕ → ℕ
+before n calls i = draws (take i (answers (begun n) calls))
+
 -- None of the calls is turned down. Each, with j draws before it in the list that were not turned down, gives the pair at position j of
 -- the list if j is below its length L, and says spent if j is L or more. After them the degree is still n, and the position is the smaller
 -- of L and how many draws were not turned down.
 pub record Walked (n : ℕ) (calls : List Call) : Type 0 where
-  pub answered : length (answers (begun n) calls) ≡ length calls
-  pub each : (i : ℕ) → i < length calls
-      → getD (answers (begun n) calls) i (record { call = look; reply = spent }) .reply
-      ≡ entryReply n (draws (take i (answers (begun n) calls)))
-  pub none-refused : (i : ℕ) → i < length calls
-      → NotRefused (getD (answers (begun n) calls) i (record { call = look; reply = spent }) .reply)
+  pub none-refused : (i : ℕ) → i < length calls → NotRefused (answer n calls i)
+  pub pair : (i : ℕ) → i < length calls → before n calls i < listLength n → answer n calls i ≡ pairReply (entry n (before n calls i))
+  pub spent-at-end : (i : ℕ) → i < length calls → listLength n ≤ before n calls i → answer n calls i ≡ spent
   pub degree : last (begun n) calls .degree ≡ n
   pub position : last (begun n) calls .position ≡ min (listLength n) (draws (answers (begun n) calls))
 

@@ -3,14 +3,13 @@ use Prim.Native.Nat.{ℕ, _+_}
 use mathlib.Core.Bool.{_||_, cond}
 use mathlib.Core.List.{[], _∷_}
 use lib.Dec.{ltb}
-use lib.ListN.{getD}
 use Rattle.reply.specs.Numbers.{numberOf}
 use Rattle.reply.specs.Reply.{Reply, served, refused, spent, Cause, _gives_, unless, after}
 use Rattle.poly.specs.Limits.{outside, listLength}
 use Rattle.poly.specs.Causes.{degreeCause}
-use Rattle.euclid.specs.Chain.{Pair}
 use Rattle.walk.specs.declared.Walk.{Walk}
-use Rattle.pairs.specs.Pairs.{pairs, start}
+use Rattle.pairs.specs.Pairs.{entry}
+use Rattle.pairs.specs.Replies.{pairReply}
 use Rattle.walk.specs.declared.Started.{Started}
 use Rattle.walk.specs.declared.Started.the-variants.{Walk as Begun, Refused}
 use Rattle.walk.specs.declared.Next.{Next}
@@ -35,9 +34,7 @@ nextReply (Turned refusal) = refused (numberOf refusal)
 
 -- The pair at a position of the list of degree n; spent at the list's end.
 abbrev pub entryReply : ℕ → ℕ → Reply
-entryReply n position =
-    let pair : Pair = getD (pairs n) position start in
-    cond (ltb position (listLength n)) (served (pair .f ∷ pair .g ∷ [])) spent
+entryReply n position = cond (ltb position (listLength n)) (pairReply (entry n position)) spent
 
 -- A look and a draw both answer with the pair at the record's position.
 unfoldable pub lookReply : Walk → Reply

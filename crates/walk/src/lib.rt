@@ -92,3 +92,21 @@ impl Walk {
         }
     }
 }
+
+// The draw over a record that the console lends.
+pub fn draw(walk: &mut Walk) -> Next
+    ensures { λ r. ⌜ (nextReply r ≡ lookReply (now (walk .entry))) × (now (walk .exit) ≡ afterDraw (now (walk .entry))) ⌝ }
+{
+    let here = *walk;
+    let d = here.drawn();
+    *walk = d.walk;
+    d.answer
+}
+
+// The look at a record that the console lends.
+pub fn look_at(walk: &Walk) -> Next
+    ensures { λ r. ⌜ nextReply r ≡ lookReply (now (walk .entry)) ⌝ }
+{
+    let here = *walk;
+    here.look()
+}

@@ -1,0 +1,64 @@
+// Checksums of whole lists, and positions found back.
+use crate::random::mixed;
+
+pub fn length(n: u32) -> u64 {
+    match (poly::Degree { n }).list_length() {
+        poly::Count::Is(length) => length,
+        poly::Count::Refused(_) => 0,
+    }
+}
+
+fn pair(sum: u64, n: u32, position: u64) -> u64 {
+    match pairs::pair_at(n, position) {
+        pairs::Found::Codes(f, g) => mixed(mixed(sum, f as u64), g as u64),
+        pairs::Found::Refused(refusal) => mixed(sum, refusal.number() as u64),
+    }
+}
+
+pub fn list_sum(n: u32) -> u64 {
+    let mut sum: u64 = 0;
+    for position in 0..length(n) {
+        sum = pair(sum, n, position);
+    }
+    sum
+}
+
+// 1 if the pair at the position is found there again.
+fn back(n: u32, position: u64) -> u64 {
+    match pairs::pair_at(n, position) {
+        pairs::Found::Codes(f, g) => match pairs::position_of(n, f, g) {
+            pairs::Place::At(found) => { if found == position { 1 } else { 0 } }
+            pairs::Place::Refused(_) => 0,
+        },
+        pairs::Found::Refused(_) => 0,
+    }
+}
+
+pub fn found_back(n: u32) -> u64 {
+    let mut found: u64 = 0;
+    for position in 0..length(n) {
+        found = std::num::wrapping_add_u64(found, back(n, position));
+    }
+    found
+}
+
+// The i-th of a hundred positions spread over the list of degree 31.
+fn spread(i: u64) -> u64 {
+    768614336404564650 / 100 * (i % 100) + i % 100
+}
+
+pub fn spread_sum() -> u64 {
+    let mut sum: u64 = 0;
+    for i in 0..100u64 {
+        sum = pair(sum, 31, spread(i));
+    }
+    pair(sum, 31, 768614336404564649)
+}
+
+pub fn spread_found() -> u64 {
+    let mut found = back(31, 768614336404564649);
+    for i in 0..100u64 {
+        found = std::num::wrapping_add_u64(found, back(31, spread(i)));
+    }
+    found
+}

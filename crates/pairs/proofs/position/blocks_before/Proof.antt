@@ -1,0 +1,146 @@
+-- `blocks_before` meets its contract. The invariant: size counts the sequences of fewer than j quotients, and compositions those into j
+-- parts.
+use mathlib.Core.Path.{_≡_, refl, sym, ap, _∙_}
+use Prim.Native.Nat.{ℕ, _+_, _-_, _*_, _%_, _^_, _≤_, _<_}
+use native.Mathlib.Omega.{arith}
+use Rattle.pairs.proofs.Loops.{before}
+use Rattle.pairs.proofs.Compositions.{parts, listed-compositions}
+use Rattle.pairs.proofs.Blocks.{blockSize}
+use Rattle.pairs.proofs.Sizes.{
+  length-before,
+  blocks-next,
+  blocks-within,
+  share-lt,
+  sequences-lt,
+  parts-two,
+  parts-next,
+  size-shifted,
+}
+use Rattle.pairs.proofs.position.blocks_before.Statement.{statement}
+use Rattle.pairs.proofs.position.blocks_before.Tie as tie
+
+abbrev Inv-loop : tie.InvT-loop
+Inv-loop n k j₀ size₀ compositions₀ j size compositions =
+    (2 ≤ j) × (j ≤ k) × (size ≡ before (blockSize n) 2 (j - 2)) × (compositions ≡ parts n j)
+
+abbrev μ-loop : tie.MeasureT-loop
+μ-loop n k j₀ size₀ compositions₀ j size compositions = k - j
+
+sub-compositions : tie.Need-sub-compositions Inv-loop μ-loop
+sub-compositions c = omega arith
+
+cast-compositions : tie.Need-cast-compositions Inv-loop μ-loop
+cast-compositions c = omega arith
+
+loop-holds : tie.Need-loop-holds Inv-loop μ-loop
+loop-holds c = (omega arith, omega arith, refl, parts-two (c .args .n) (omega arith))
+
+cast-loop : tie.Need-cast-loop Inv-loop μ-loop
+cast-loop c = omega arith
+
+cast-word-count : tie.Need-cast-word-count Inv-loop μ-loop
+cast-word-count c = omega arith
+
+word-count-requires : tie.Need-word-count-requires Inv-loop μ-loop
+word-count-requires c κs = omega arith
+
+sub-size : tie.Need-sub-size Inv-loop μ-loop
+sub-size c = omega arith
+
+cast-size : tie.Need-cast-size Inv-loop μ-loop
+cast-size c = omega arith
+
+shl-size : tie.Need-shl-size Inv-loop μ-loop
+shl-size c = omega arith
+
+-- in a turn, the block of j quotients
+here : (c : tie.After-word-count Inv-loop μ-loop)
+    → c .before .before .loop .compositions
+    * (c .word-count .result * 2 ^ (c .before .before .before .args .n - c .before .before .loop .j) % 2 ^ 64)
+    ≡ blockSize (c .before .before .before .args .n) (c .before .before .loop .j)
+here c =
+    size-shifted (c .before .before .before .args .n) (c .before .before .loop .j) (c .before .before .loop .compositions)
+    (c .word-count .result) (omega arith) (omega arith) (c .before .before .loop .inv .3) (c .word-count .ensures)
+
+room : (c : tie.After-word-count Inv-loop μ-loop)
+    → c .before .before .loop .size + blockSize (c .before .before .before .args .n) (c .before .before .loop .j) < 2 ^ 60
+room c =
+    let n : ℕ = c .before .before .before .args .n in
+    let j : ℕ = c .before .before .loop .j in
+    omega (arith, blocks-within n j (omega arith) (omega arith), sequences-lt n (omega arith))
+
+mul-size : tie.Need-mul-size Inv-loop μ-loop
+mul-size c = rw (here c) (omega (arith, room c))
+
+add-size : tie.Need-add-size Inv-loop μ-loop
+add-size c = rw (here c) (omega (arith, room c))
+
+sub-compositions-2 : tie.Need-sub-compositions-2 Inv-loop μ-loop
+sub-compositions-2 c = omega arith
+
+cast-compositions-2 : tie.Need-cast-compositions-2 Inv-loop μ-loop
+cast-compositions-2 c = omega arith
+
+mul-compositions : tie.Need-mul-compositions Inv-loop μ-loop
+mul-compositions c =
+    let n : ℕ = c .before .before .before .args .n in
+    let j : ℕ = c .before .before .loop .j in
+    rw (c .before .before .loop .inv .3) (omega (arith, share-lt n j (n - j) (omega arith) (omega arith)))
+
+cast-compositions-3 : tie.Need-cast-compositions-3 Inv-loop μ-loop
+cast-compositions-3 c = omega arith
+
+div-compositions : tie.Need-div-compositions Inv-loop μ-loop
+div-compositions c = omega arith
+
+add-j : tie.Need-add-j Inv-loop μ-loop
+add-j c = omega arith
+
+loop-less : tie.Need-loop-less Inv-loop μ-loop
+loop-less c = omega arith
+
+loop-again : tie.Need-loop-again Inv-loop μ-loop
+loop-again c =
+    let n : ℕ = c .before .before .before .args .n in
+    let j : ℕ = c .before .before .loop .j in (
+      omega arith,
+      omega arith,
+      rw (here c, c .before .before .loop .inv .2) (sym (blocks-next n j (omega arith))),
+      rw (c .before .before .loop .inv .3) (parts-next n j (omega arith) (omega arith)),
+    )
+
+returns : tie.Need-returns Inv-loop μ-loop
+returns c =
+    let n : ℕ = c .before .before .args .n in
+    let k : ℕ = c .before .before .args .k in
+    let end : c .before .loop .j ≡ k = omega arith in (
+      c .before .loop .inv .2 ∙ ap (λ v. before (blockSize n) 2 (v - 2)) end ∙ sym (length-before n (k - 2)),
+      c .before .loop .inv .3 ∙ ap (parts n) end ∙ sym (listed-compositions n k .long),
+    )
+
+pub blocks-before-spec : {M : Type 1} → statement M
+blocks-before-spec =
+    tie.close
+    (tie.spec
+    Inv-loop
+    μ-loop
+    sub-compositions
+    cast-compositions
+    loop-holds
+    cast-loop
+    cast-word-count
+    word-count-requires
+    sub-size
+    cast-size
+    shl-size
+    mul-size
+    add-size
+    sub-compositions-2
+    cast-compositions-2
+    mul-compositions
+    cast-compositions-3
+    div-compositions
+    add-j
+    loop-less
+    loop-again
+    returns)

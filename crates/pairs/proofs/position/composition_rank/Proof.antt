@@ -1,0 +1,173 @@
+-- `composition_rank` meets its contract. The invariant: the rank so far and that of the degrees that are left make the rank of all, and
+-- count is the number of compositions that the gaps left allow.
+use mathlib.Core.List.{List, _∷_, map}
+use mathlib.Core.Path.{_≡_, sym, ap, _∙_}
+use Prim.Native.Nat.{ℕ, suc, _-_, _^_, _≤_, _<_}
+use native.Mathlib.Omega.{arith}
+use borrow.Author.Needs.{needs}
+use lib.ListN.{length, getD, length-map}
+use Rattle.poly.specs.Code.{degree}
+use Rattle.pairs.specs.Sequences.{compositions}
+use Rattle.pairs.specs.Ranking.{StandsAt, backwards}
+use Rattle.pairs.proofs.Valid.{Valid}
+use Rattle.pairs.proofs.Compositions.{parts, listed-compositions, compositionRank, compositionRank-lt}
+use Rattle.pairs.proofs.Sizes.{parts-lt, share-lt}
+use Rattle.pairs.proofs.Ranking.{among-valid, length-backwards, backwards-count, backwards-step, composition-stands}
+use Rattle.pairs.proofs.ReadBack.{Walked, walked-none, walked-plus, walked-comma, walked-all, left-several, share-le}
+use Rattle.pairs.proofs.position.composition_rank.Statement.{statement}
+use Rattle.pairs.proofs.position.composition_rank.Tie as tie
+
+-- the degrees of the quotients in the chain's entries k to 1
+abbrev degrees : List ℕ → ℕ → List ℕ
+degrees chain k = map (degree 2) (backwards chain k)
+
+length-degrees : (chain : List ℕ) (k : ℕ) → length (degrees chain k) ≡ k
+length-degrees chain k = length-map (backwards chain k) (degree 2) ∙ length-backwards chain k
+
+degrees-step : (chain : List ℕ) (k : ℕ) {d : ℕ} → 0 < k → d ≡ degree 2 (getD chain k 0) → degrees chain k ≡ d ∷ degrees chain (k - 1)
+degrees-step chain k h is =
+    ap (map (degree 2)) (backwards-step chain k h) ∙ ap (λ v. v ∷ degrees chain (k - 1)) (sym is)
+
+module _ (n : ℕ) (chain : List ℕ) (k : ℕ) (v : Valid n (backwards chain k)) where
+  rank-lt : n < 32 → compositionRank n (degrees chain k) < 2 ^ 31
+  rank-lt small =
+      omega (
+        arith,
+        compositionRank-lt n (degrees chain k) (v .positive) (v .total),
+        parts-lt n (length (degrees chain k)) small,
+      )
+
+  stands : {r : ℕ} → r ≡ compositionRank n (degrees chain k) → StandsAt (compositions n k) r (degrees chain k)
+  stands is = rw is (rw length-degrees at (composition-stands n (degrees chain k) (v .positive) (v .total)))
+
+  first : {count d : ℕ} → count ≡ length (compositions n k) → d ≡ degree 2 (getD chain k 0)
+      → Walked n (degrees chain k) 0 n count (k - 1) d (degrees chain (k - 1))
+  first all is =
+      let up : k ≡ suc (k - 1) = omega (arith, backwards-count n chain k v) in
+      walked-none (degrees-step chain k (omega arith) is) (v .positive) (v .total) (length-degrees chain (k - 1))
+      (all ∙ listed-compositions n k .long ∙ ap (parts n) up)
+
+abbrev Inv-loop : tie.InvT-loop
+Inv-loop n chain k all rank₀ left₀ count₀ commas₀ d₀ rank left count commas d =
+    (commas < k) × Walked n (degrees chain k) rank left count commas d (degrees chain commas)
+
+abbrev μ-loop : tie.MeasureT-loop
+μ-loop n chain k all rank₀ left₀ count₀ commas₀ d₀ rank left count commas d = left
+
+valid : (c : tie.Start Inv-loop μ-loop) → Valid (c .args .n) (backwards (c .args .chain .now) (c .args .k))
+valid c = among-valid (c .args .n) (backwards (c .args .chain .now) (c .args .k)) (c .pre .1 .1 .0)
+
+sub-commas : tie.Need-sub-commas Inv-loop μ-loop
+sub-commas c =
+    let a = c .before .args in
+    omega (arith, backwards-count (a .n) (a .chain .now) (a .k) (valid (c .before)))
+
+mul-degree-of : tie.Need-mul-degree-of Inv-loop μ-loop
+mul-degree-of c = search needs
+
+shared-slice-read-degree-of : tie.Need-shared-slice-read-degree-of Inv-loop μ-loop
+shared-slice-read-degree-of c = search needs
+
+degree-of-requires : tie.Need-degree-of-requires Inv-loop μ-loop
+degree-of-requires c κs = search needs
+
+loop-holds : tie.Need-loop-holds Inv-loop μ-loop
+loop-holds c =
+    let start = c .before .before .before in
+    let a = start .args in
+    let v = valid start in (
+      omega (arith, backwards-count (a .n) (a .chain .now) (a .k) v),
+      first (a .n) (a .chain .now) (a .k) v (start .pre .1 .1 .1) (c .degree-of .ensures),
+    )
+
+-- in a turn two ones are left, one at each end of the gap
+two : (c : tie.In-loop Inv-loop μ-loop) → 2 ≤ c .before .loop .left
+two c = left-several (c .before .loop .inv .1) (c .loop-test .taken)
+
+sub-left : tie.Need-sub-left Inv-loop μ-loop
+sub-left c = omega (arith, two c)
+
+mul-with-comma : tie.Need-mul-with-comma Inv-loop μ-loop
+mul-with-comma c =
+    let l = c .before .loop in
+    let a = c .before .before .before .before .before .args in
+    let k-le = backwards-count (a .n) (a .chain .now) (a .k) (valid (c .before .before .before .before .before)) in
+    rw (l .inv .1 .count-is)
+    (omega (arith, share-lt (l .left) (suc (l .commas)) (l .commas) (omega (arith, l .inv .1 .within)) (omega arith)))
+
+div-with-comma : tie.Need-div-with-comma Inv-loop μ-loop
+div-with-comma c = omega (arith, two c)
+
+add-rank : tie.Need-add-rank Inv-loop μ-loop
+add-rank c =
+    let start = c .before .before .before .before .before .before in
+    let a = start .args in
+    let next = walked-plus (c .before .before .loop .inv .1) (c .before .loop-test .taken) (omega arith) in
+    omega (arith, next .rank-is, rank-lt (a .n) (a .chain .now) (a .k) (valid start) (omega arith))
+
+sub-count : tie.Need-sub-count Inv-loop μ-loop
+sub-count c = share-le (c .before .before .loop .inv .1) (c .before .loop-test .taken)
+
+sub-d : tie.Need-sub-d Inv-loop μ-loop
+sub-d c = omega arith
+
+loop-less : tie.Need-loop-less Inv-loop μ-loop
+loop-less c = omega (arith, two (c .before))
+
+loop-again : tie.Need-loop-again Inv-loop μ-loop
+loop-again c = (omega arith, walked-plus (c .before .before .loop .inv .1) (c .before .loop-test .taken) (omega arith))
+
+mul-degree-of-2 : tie.Need-mul-degree-of-2 Inv-loop μ-loop
+mul-degree-of-2 c = search needs
+
+shared-slice-read-degree-of-2 : tie.Need-shared-slice-read-degree-of-2 Inv-loop μ-loop
+shared-slice-read-degree-of-2 c = search needs
+
+degree-of-requires-2 : tie.Need-degree-of-requires-2 Inv-loop μ-loop
+degree-of-requires-2 c κs = search needs
+
+sub-commas-2 : tie.Need-sub-commas-2 Inv-loop μ-loop
+sub-commas-2 c = omega arith
+
+loop-less-2 : tie.Need-loop-less-2 Inv-loop μ-loop
+loop-less-2 c = omega (arith, two (c .before .before .before))
+
+loop-again-2 : tie.Need-loop-again-2 Inv-loop μ-loop
+loop-again-2 c =
+    let l = c .before .before .before .before .loop in
+    let chain = c .before .before .before .before .before .before .before .before .args .chain .now in
+    let more = degrees-step chain (l .commas) (c .before .before .before .loop-test .taken) (c .degree-of2 .ensures) in
+    (omega arith, walked-comma (rw more at (l .inv .1)) (omega arith))
+
+returns : tie.Need-returns Inv-loop μ-loop
+returns c =
+    let start = c .before .before .before .before .before in
+    let a = start .args in
+    stands (a .n) (a .chain .now) (a .k) (valid start) (walked-all (c .before .loop .inv .1) (omega arith))
+
+pub composition-rank-spec : {M : Type 1} → statement M
+composition-rank-spec =
+    tie.close
+    (tie.spec
+    Inv-loop
+    μ-loop
+    sub-commas
+    mul-degree-of
+    shared-slice-read-degree-of
+    degree-of-requires
+    loop-holds
+    sub-left
+    mul-with-comma
+    div-with-comma
+    add-rank
+    sub-count
+    sub-d
+    loop-less
+    loop-again
+    mul-degree-of-2
+    shared-slice-read-degree-of-2
+    degree-of-requires-2
+    sub-commas-2
+    loop-less-2
+    loop-again-2
+    returns)
