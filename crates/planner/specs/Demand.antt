@@ -1,6 +1,6 @@
 -- Demand 3, whole. It is about what the calls answer: `startReply` is the reply that the contract of start gives, `lookReply` and
--- `afterDraw`, over which `Walked` runs, are those of look and draw, `pairAtReply`, `positionReply` and `siteReply` those of the pair call, the
--- position call and the site call. The fields that name them tie the list of pairs and the squares to these calls.
+-- `afterDraw`, over which `Walked` runs, are those of look and draw, `pairAtReply`, `positionReply` and `siteReply` those of the pair call,
+-- the position call and the site call. The fields that name them tie the list of pairs and the squares to these calls.
 use mathlib.Core.Logic.{_↔_}
 use mathlib.Core.List.{List, [], _∷_}
 use mathlib.Core.Path.{_≡_}

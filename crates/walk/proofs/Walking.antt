@@ -13,7 +13,8 @@ use Rattle.poly.specs.Limits.{listLength}
 use Rattle.poly.proofs.Ranges.{inside}
 use Rattle.walk.specs.declared.Walk.{Walk}
 use Rattle.walk.specs.Walks.{recordCause, entryReply, lookReply, afterDraw}
-use Rattle.walk.specs.Calls.{Call, look, draw, Answered, next, answers, last, counts, draws, NotRefused, begun, answer, before, WalkClaim}
+use Rattle.walk.specs.Calls.{Call, look, draw, Answered, next, answers, last, counts}
+use Rattle.walk.specs.Calls.{draws, NotRefused, begun, answer, before, WalkClaim}
 
 -- the record after c draws
 abbrev along : ℕ → ℕ → Walk
