@@ -4,11 +4,7 @@ use native.Mathlib.Nat.{add-mul, mul-suc, zero-mul, mul-div-cancel, mul-add}
 use native.Mathlib.Decide.{decLt}
 use native.Mathlib.Omega.{arith}
 use mathlib.Core.Path.{_≡_, refl, sym, ap}
-
-abbrev pub choose : ℕ → ℕ → ℕ
-choose n zero = 1
-choose zero (suc k) = 0
-choose (suc n) (suc k) = choose n k + choose n (suc k)
+use Rattle.pairs.specs.Counts.{choose}
 
 pub choose-above : (n k : ℕ) → n < k → choose n k ≡ 0
 choose-above n zero h = absurd (omega arith)

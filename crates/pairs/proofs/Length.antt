@@ -7,12 +7,16 @@ use native.Mathlib.Decide.{decLt}
 use native.Mathlib.Omega.{arith}
 use mathlib.Core.Path.{_≡_, refl, ap, _∙_}
 use mathlib.Core.Bool.{true, false}
+use mathlib.Core.List.{map}
 use lib.ListN.{length}
+use Rattle.pairs.specs.Counts.{sum, choose}
+use Rattle.pairs.specs.Loops.{numbers}
+use Rattle.pairs.specs.Claims.{withQuotients}
 use Rattle.pairs.specs.Words.{State, s10, s11, s01, step}
 use Rattle.pairs.specs.Sequences.{sequences}
 use Rattle.pairs.proofs.Loops.{before}
-use Rattle.pairs.proofs.Words.{count}
-use Rattle.pairs.proofs.Binomial.{choose, choose-above}
+use Rattle.pairs.proofs.Words.{count, listed-wordsFrom}
+use Rattle.pairs.proofs.Binomial.{choose-above}
 use Rattle.pairs.proofs.Blocks.{blockSize}
 use Rattle.pairs.proofs.Sequences.{length-sequences}
 
@@ -113,6 +117,22 @@ blocks-sum n =
     one-letter : term n words-after 0 ≡ 0
     one-letter = simp mul-zero
 
+pub length-tripled : (n : ℕ) → 3 * length (sequences n) ≡ 2 * (4 ^ (n - 1) - 1)
+length-tripled zero = ap (λ v. 3 * v) (length-sequences 0)
+length-tripled (suc n) = rw (length-sequences, sub-one (suc n), blocks-sum) (omega (arith, totals n .at10))
+
 pub length-closed : (n : ℕ) → length (sequences n) ≡ 2 * (4 ^ (n - 1) - 1) / 3
-length-closed zero = length-sequences 0
-length-closed (suc n) = rw (length-sequences, sub-one (suc n), blocks-sum) (omega (arith, totals n .at10))
+length-closed n = omega (arith, length-tripled n)
+
+-- ---- the sum of Lemma 4
+summed : (f g : ℕ → ℕ) → ((i : ℕ) → f (suc i) ≡ g (suc i)) → (a m : ℕ) → before f (suc a) m ≡ sum (map g (numbers (suc a) m))
+summed f g e a zero = refl
+summed f g e a (suc m) = omega (arith, e a, summed f g e (suc a) m)
+
+pub length-summed : (n : ℕ) → length (sequences n) ≡ sum (map (withQuotients n) (numbers 2 (n - 1)))
+unfolding blockSize
+length-summed zero = length-sequences 0
+length-summed (suc n) = length-sequences (suc n) ∙ summed (blockSize (suc n)) (withQuotients (suc n)) same 1 (suc n - 1)
+  where
+    same : (i : ℕ) → blockSize (suc n) (suc i) ≡ withQuotients (suc n) (suc i)
+    same i = rw (sub-one (suc n), sub-one (suc i), listed-wordsFrom s10 (suc i) .long)

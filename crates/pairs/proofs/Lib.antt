@@ -18,6 +18,7 @@ pub mod Turns
 pub mod Constants
 pub mod Sequence
 pub mod Standing
+pub mod Undo
 pub mod Ranking
 pub mod Sizes
 pub mod ReadBack

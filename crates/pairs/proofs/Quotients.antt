@@ -14,8 +14,9 @@ use lib.Arith.{digits-div, digits-mod, digits-lt}
 use lib.Pow.{pow-pos, pow-add}
 use borrow.Author.Tests.{eq-eqb, ne-eqb}
 use Rattle.poly.specs.Code.{degree, HasDegree}
+use Rattle.pairs.specs.Counts.{sum}
 use Rattle.pairs.specs.Sequences.{bits, bit, quotients}
-use Rattle.pairs.proofs.Valid.{sum, EachPositive, constant}
+use Rattle.pairs.proofs.Valid.{EachPositive, constant}
 use Rattle.poly.proofs.Leading.{degree-has, degree-is, degree-zero}
 
 -- The intermediate bits of a sequence, as a number.

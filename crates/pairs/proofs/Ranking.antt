@@ -10,10 +10,11 @@ use mathlib.Core.List.{List, [], _∷_, _++_, reverse, reverse-cons}
 use lib.ListN.{length, getD}
 use lib.Pow.{pow-mono}
 use borrow.Author.Tests.{eq-eqb, ne-eqb}
+use Rattle.pairs.specs.Counts.{sum}
 use Rattle.pairs.specs.Words.{State, s10, s11, s01, step, leads, wordsFrom}
 use Rattle.pairs.specs.Sequences.{compositions, sequences}
 use Rattle.pairs.specs.Ranking.{StandsAt, Among, digits, backwards}
-use Rattle.pairs.proofs.Valid.{sum, EachPositive, Valid}
+use Rattle.pairs.proofs.Valid.{EachPositive, Valid}
 use Rattle.pairs.proofs.Words.{count, count-suc, wordRank, listed-wordsFrom, WordAt, wordAt-known, wordRank-lt, wordAt-rank}
 use Rattle.pairs.proofs.Compositions.{
   parts,

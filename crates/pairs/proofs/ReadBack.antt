@@ -11,9 +11,10 @@ use lib.ListN.{length, length-map}
 use lib.Dec.{lit<}
 use lib.Pow.{pow-pos, pow-mono, shl-exact}
 use Rattle.poly.specs.Code.{degree}
+use Rattle.pairs.specs.Counts.{sum}
 use Rattle.pairs.specs.Sequences.{bits, bit}
 use Rattle.pairs.specs.Ranking.{digits, Parts}
-use Rattle.pairs.proofs.Valid.{sum, EachPositive, constant, Valid}
+use Rattle.pairs.proofs.Valid.{EachPositive, constant, Valid}
 use Rattle.pairs.specs.Words.{number}
 use Rattle.pairs.proofs.Letters.{number-lt, letters, letters-number, numberFrom, numberFrom-is}
 use Rattle.pairs.proofs.Quotients.{middle, middle-lt, middleFrom, middleFrom-is, quotients-of-parts, bit-constant, code-has}

@@ -17,9 +17,10 @@ use Rattle.poly.proofs.Binary.{add-again, leads-cancel}
 use Rattle.euclid.specs.Chain.{Chain, Pair, chain, back}
 use Rattle.euclid.proofs.Chains.{Each, link, degrees, first-quotient, later-quotients, degrees-total, divisor-coprime}
 use Rattle.euclid.proofs.Built.{built, built-chain, chain-built, chain-of-built, Falling, falling}
+use Rattle.pairs.specs.Counts.{sum}
 use Rattle.pairs.specs.Words.{State, s10, s11, s01, run, is10, kept}
 use Rattle.pairs.specs.Pairs.{turn, turns, start, build, CoprimePair}
-use Rattle.pairs.proofs.Valid.{Valid, EachPositive, constant, sum}
+use Rattle.pairs.proofs.Valid.{Valid, EachPositive, constant}
 use Rattle.pairs.proofs.Quotients.{nonzero}
 use Rattle.pairs.proofs.Constants.{Constants, constants, first, second}
 

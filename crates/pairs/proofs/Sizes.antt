@@ -19,10 +19,11 @@ use mathlib.Core.Path.{_≡_, refl, sym, ap, _∙_}
 use mathlib.Core.List.{[]}
 use lib.ListN.{length}
 use lib.Pow.{pow-pos, pow-mono, shl-exact}
+use Rattle.pairs.specs.Counts.{choose}
 use Rattle.pairs.specs.Loops.{numbers, each}
 use Rattle.pairs.specs.Words.{s10, words}
 use Rattle.pairs.specs.Sequences.{block, sequences}
-use Rattle.pairs.proofs.Binomial.{choose, choose-next}
+use Rattle.pairs.proofs.Binomial.{choose-next}
 use Rattle.pairs.proofs.Compositions.{parts}
 use Rattle.pairs.proofs.Loops.{before, listed-blocks}
 use Rattle.pairs.proofs.Words.{count}

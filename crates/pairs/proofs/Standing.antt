@@ -19,7 +19,7 @@ use Rattle.pairs.specs.Replies.{indexOf}
 use Rattle.pairs.specs.Claims.{Stands, ListClaim}
 use Rattle.pairs.proofs.Valid.{Valid}
 use Rattle.pairs.proofs.Sequences.{sequenceRank, sequenceAt-is, sequences-valid, valid-once}
-use Rattle.pairs.proofs.Pairs.{pairAt-is, length-pairs}
+use Rattle.pairs.proofs.Pairs.{pairAt-is, length-pairs, length-exact, length-counted}
 use Rattle.pairs.proofs.Sequence.{later, sequenceOf, whole, valid-chain, valid-pair, sequence-builds, sequence-valid}
 
 -- the list of pairs is as long as the list of sequences, and has its pair at each position
@@ -103,13 +103,9 @@ standing n f g pos hf hg of og one rs is =
 pub list-complete : ListClaim
 list-complete n pos =
     record {
+      counted = length-counted n;
+      closed = length-exact n;
       long = length-pairs n;
       coprime = entries-coprime n;
       once = coprime-stands n pos;
-      position =
-          λ j h.
-          let s = coprime-stands n pos (getD (pairs n) j start) (entries-coprime n j h) in
-          index-stands n (getD (pairs n) j start) s ∙ sym (s .only j h refl);
-      entry =
-          λ pair c. let s = coprime-stands n pos pair c in ap (λ (v : ℕ). getD (pairs n) v start) (index-stands n pair s) ∙ s .there;
     }

@@ -15,6 +15,7 @@ use borrow.Author.Tests.{lt-ltb, le-ltb}
 use Rattle.reply.specs.Reply.{served}
 use Rattle.poly.proofs.Binary.{add-xor, bit-scale}
 use Rattle.euclid.specs.Chain.{Pair}
+use Rattle.pairs.specs.Counts.{choose}
 use Rattle.pairs.specs.Words.{s10, words, number}
 use Rattle.pairs.specs.Sequences.{bit, compositions, block}
 use Rattle.pairs.specs.Pairs.{build}
@@ -22,7 +23,7 @@ use Rattle.pairs.specs.Replies.{pairReply}
 use Rattle.pairs.proofs.Valid.{constant}
 use Rattle.pairs.proofs.Words.{count, wordAt, wordAt-known, listed-words}
 use Rattle.pairs.proofs.Letters.{letters, letters-number}
-use Rattle.pairs.proofs.Binomial.{choose, choose-above}
+use Rattle.pairs.proofs.Binomial.{choose-above}
 use Rattle.pairs.proofs.Compositions.{parts, parts-share, pascal, listed-compositions, compositions-count}
 use Rattle.pairs.proofs.Quotients.{bit-constant}
 use Rattle.pairs.proofs.Blocks.{blockSize, listed-block, word-index, composition-index}

@@ -1,16 +1,26 @@
--- What is shown of the list and of the words.
+-- What is shown of the list, of the words and of the two calls.
+use mathlib.Core.Logic.{_↔_}
+use mathlib.Core.List.{[], _∷_, map}
 use mathlib.Core.Path.{_≡_}
-use Prim.Native.Nat.{ℕ, _+_, _*_, _%_, _^_, _≤_, _<_}
+use Prim.Native.Nat.{ℕ, _+_, _-_, _*_, _%_, _^_, _≤_, _<_}
 use lib.ListN.{length}
+use Rattle.reply.specs.Reply.{served}
 use Rattle.poly.specs.Limits.{listLength}
 use Rattle.euclid.specs.Chain.{Pair}
+use Rattle.pairs.specs.Loops.{numbers}
+use Rattle.pairs.specs.Counts.{sum, choose}
 use Rattle.pairs.specs.Words.{words}
 use Rattle.pairs.specs.Pairs.{pairs, entry, CoprimePair}
-use Rattle.pairs.specs.Replies.{indexOf}
+use Rattle.pairs.specs.Replies.{pairAtReply, positionReply}
 
 -- There are (2^k + 2(-1)^k)/3 kept words of k letters: three times their number is 2^k + 2 for even k, 2^k - 2 for odd k.
 abbrev pub WordsClaim : Type 0
 WordsClaim = (k : ℕ) → 3 * length (words k) + 4 * (k % 2) ≡ 2 ^ k + 2
+
+-- Source document 000, Lemma 4: k quotients have C(n-1, k-1) lists of degrees, 2^(n-k) values of the intermediate bits, and the words of k
+-- letters.
+abbrev pub withQuotients : ℕ → ℕ → ℕ
+withQuotients n k = choose (n - 1) (k - 1) * (2 ^ (n - k) * length (words k))
 
 -- The pair stands in the list of degree n at one position, and at no other.
 pub record Stands (n : ℕ) (pair : Pair) : Type 0 where
@@ -19,14 +29,18 @@ pub record Stands (n : ℕ) (pair : Pair) : Type 0 where
   pub there : entry n position ≡ pair
   pub only : (j : ℕ) → j < length (pairs n) → entry n j ≡ pair → j ≡ position
 
--- The list of degree n has 2(4^(n-1) - 1)/3 entries, each an ordered coprime pair of degree n with both constant terms one, and each such
--- pair stands in it once; the position of an entry is its own, and the entry at the position of a pair is the pair.
+-- The list of degree n has as many entries as Lemma 4 sums over k, which are 2(4^(n-1) - 1)/3. Each is an ordered coprime pair of degree n
+-- with both constant terms one, and each such pair stands in it once.
 pub record Complete (n : ℕ) : Type 0 where
+  pub counted : length (pairs n) ≡ sum (map (withQuotients n) (numbers 2 (n - 1)))
+  pub closed : 3 * length (pairs n) ≡ 2 * (4 ^ (n - 1) - 1)
   pub long : length (pairs n) ≡ listLength n
   pub coprime : (j : ℕ) → j < length (pairs n) → CoprimePair n (entry n j)
   pub once : (pair : Pair) → CoprimePair n pair → Stands n pair
-  pub position : (j : ℕ) → j < length (pairs n) → indexOf (entry n j .f) (entry n j .g) (pairs n) ≡ j
-  pub entry : (pair : Pair) → CoprimePair n pair → entry n (indexOf (pair .f) (pair .g) (pairs n)) ≡ pair
 
 abbrev pub ListClaim : Type 0
 ListClaim = (n : ℕ) → 1 ≤ n → Complete n
+
+-- The pair call and the position call undo each other.
+abbrev pub UndoClaim : Type 0
+UndoClaim = (n : ℕ) → 1 ≤ n → n ≤ 31 → (j f g : ℕ) → (pairAtReply n j ≡ served (f ∷ g ∷ [])) ↔ (positionReply n f g ≡ served (j ∷ []))

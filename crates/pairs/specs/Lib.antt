@@ -1,4 +1,5 @@
 pub mod Loops
+pub mod Counts
 pub mod Words
 pub mod Sequences
 pub mod Pairs

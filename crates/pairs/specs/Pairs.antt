@@ -27,7 +27,7 @@ build qs = turn (turns start qs) 1
 unfoldable pub pairs : ℕ → List Pair
 pairs n = map build (sequences n)
 
--- The pair at a position of it, counted from 0.
+-- The pair at a position of it, counted from 0; (1, 0) behind its end, where no call gives it.
 abbrev pub entry : ℕ → ℕ → Pair
 entry n j = getD (pairs n) j start
 

@@ -27,7 +27,7 @@ unfoldable pub pairAtReply : ℕ → ℕ → Reply
 pairAtReply n position =
     unless (degreeCause n ∷ leb (listLength n) position gives 2 ∷ []) (pairReply (entry n position))
 
--- Where a pair stands in a list, counted from 0.
+-- Where a pair stands in a list, counted from 0; the list's length if it does not.
 abbrev pub indexOf : ℕ → ℕ → List Pair → ℕ
 indexOf f g [] = 0
 indexOf f g (pair ∷ rest) = cond (eqb (pair .f) f && eqb (pair .g) g) 0 (suc (indexOf f g rest))

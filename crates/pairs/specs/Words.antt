@@ -51,7 +51,7 @@ wordsFrom s m = filter (leads s) (allWords m)
 abbrev pub words : ℕ → List (List Bool)
 words k = wordsFrom s10 k
 
--- A word as a binary number, first letter highest.
+-- A word as a binary number, first letter highest, as the readers of words give it.
 abbrev pub number : List Bool → ℕ
 number [] = 0
 number (false ∷ w) = number w

@@ -1,25 +1,22 @@
 -- Demand 3 holds: the walk's claim, the list's and the squares', put together.
 use mathlib.Core.Bool.{false}
-use mathlib.Core.List.{[], _∷_, _++_}
-use mathlib.Core.Path.{_≡_, sym, ap, _∙_}
+use mathlib.Core.List.{[], _∷_}
+use mathlib.Core.Path.{_≡_, sym, _∙_}
 use Prim.Native.Nat.{ℕ, _%_, _^_, _≤_, _<_}
 use native.Mathlib.Nat.{le-refl}
 use native.Mathlib.Omega.{arith}
-use borrow.Author.Tests.{lt-leb, eq-eqb, ne-eqb}
+use borrow.Author.Tests.{lt-leb, ne-eqb}
 use lib.Dec.{eqb}
 use lib.ListN.{length}
 use Rattle.reply.specs.Reply.{served}
 use Rattle.reply.proofs.Order.{none-refuses}
 use Rattle.poly.specs.Limits.{listLength}
-use Rattle.poly.specs.Coprime.{gcd}
-use Rattle.poly.specs.Causes.{degreeCause, codeCauses, commonFactor}
-use Rattle.poly.proofs.Binary.{coprime-one}
+use Rattle.poly.specs.Causes.{codeCauses}
 use Rattle.poly.proofs.Ranges.{inside, on-degree}
 use Rattle.poly.proofs.Primes.{inverses-2}
-use Rattle.euclid.specs.Chain.{Pair}
-use Rattle.pairs.specs.Pairs.{pairs, entry, CoprimePair}
-use Rattle.pairs.specs.Replies.{pairReply, pairAtReply, indexOf, positionReply}
+use Rattle.pairs.specs.Pairs.{pairs}
 use Rattle.pairs.proofs.Standing.{list-complete}
+use Rattle.pairs.proofs.Undo.{pair-answers, entry-found}
 use Rattle.squares.specs.Symbols.{symbol}
 use Rattle.squares.specs.Replies.{siteCauses, siteReply}
 use Rattle.squares.proofs.Claims.{squares-orthogonal}
@@ -52,32 +49,6 @@ module _ (n : ℕ) (low : 1 ≤ n) (high : n ≤ 31) where
         ),
       )
 
-  position-answers : (two : Pair) → CoprimePair n two
-      → positionReply n (two .f) (two .g) ≡ served (indexOf (two .f) (two .g) (pairs n) ∷ [])
-  unfolding positionReply codeCauses
-  position-answers two c =
-      none-refuses
-      (degreeCause n ∷ codeCauses n (two .f) ++ codeCauses n (two .g) ++ (commonFactor (two .f) (two .g) ∷ [])) _ (
-        inside 1 31 low high,
-        (
-          on-degree (c .degree-f),
-          (
-            odd (two .f) (c .odd-f),
-            (
-              on-degree (c .degree-g),
-              (
-                odd (two .g) (c .odd-g),
-                (rw (eq-eqb (gcd 2 (two .f) (two .g)) 1 (coprime-one (two .f) (two .g) .0 (c .coprime))), tt),
-              ),
-            ),
-          ),
-        ),
-      )
-
-  pair-answers : (j : ℕ) → j < listLength n → pairAtReply n j ≡ pairReply (entry n j)
-  unfolding pairAtReply
-  pair-answers j h = rw (inside 1 31 low high, lt-leb (listLength n) j h)
-
 pub demand-three : DemandThree
 demand-three n low high =
     let list = list-complete n low in
@@ -87,10 +58,7 @@ demand-three n low high =
       walk = walked n low high;
       long = long;
       pair = pair-answers n low high;
-      found =
-          λ j h.
-          position-answers n low high (entry n j) (list .coprime j (rw long h))
-          ∙ ap (λ (v : ℕ). served (v ∷ [])) (list .position j (rw long h));
+      found = entry-found n low high;
       no-stranger = λ j h. list .coprime j (rw long h);
       all-once =
           λ two c.

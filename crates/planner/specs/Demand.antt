@@ -28,7 +28,8 @@ pub record Demand (n : ℕ) : Type 0 where
   -- Starting gives the record from which the calls go on.
   pub begins : startReply n ≡ served (begun n .degree ∷ begun n .position ∷ [])
   -- For every list of draws and looks on it: a call with j draws before it that were not turned down gives the pair at position j if j is
-  -- below L, and says spent exactly when j is L or more; none is turned down; and the record afterwards.
+  -- below L, and says spent exactly when j is L or more; none is turned down; and afterwards the record has
+  -- degree n and, as its position, the smaller of L and the number of draws.
   pub walk : (calls : List Call) → Walked n calls
   -- L is the length of the list of pairs.
   pub long : length (pairs n) ≡ listLength n

@@ -24,22 +24,24 @@ abbrev pub next : Call → Walk → Walk
 next look walk = walk
 next draw walk = afterDraw walk
 
--- The answers of a list of calls, and the record after them.
+-- The answers of a list of calls.
 abbrev pub answers : Walk → List Call → List Answered
 answers walk [] = []
 answers walk (call ∷ calls) = record { call = call; reply = lookReply walk } ∷ answers (next call walk) calls
 
+-- The record after them.
 abbrev pub last : Walk → List Call → Walk
 last walk [] = walk
 last walk (call ∷ calls) = last (next call walk) calls
 
--- How many draws among them were not turned down.
+-- Whether a call is a draw that was not turned down, as 1 or 0.
 abbrev pub counts : Call → Reply → ℕ
 counts look reply = 0
 counts draw (served values) = 1
 counts draw spent = 1
 counts draw (refused number) = 0
 
+-- How many draws among the calls were not turned down.
 abbrev pub draws : List Answered → ℕ
 draws [] = 0
 draws (first ∷ rest) = counts (first .call) (first .reply) + draws rest

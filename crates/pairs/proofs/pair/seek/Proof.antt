@@ -7,11 +7,12 @@ use native.Mathlib.Numerals.{add-one}
 use native.Mathlib.Omega.{arith}
 use borrow.Author.Tests.{lt-ltb, le-ltb}
 use lib.ListN.{length, getD}
+use Rattle.pairs.specs.Counts.{choose}
 use Rattle.pairs.specs.Sequences.{compositions, block}
 use Rattle.pairs.specs.Pairs.{start, build, pairs}
 use Rattle.pairs.specs.Replies.{pairReply}
 use Rattle.pairs.proofs.Loops as loops
-use Rattle.pairs.proofs.Binomial.{choose, neighbours, choose-next}
+use Rattle.pairs.proofs.Binomial.{neighbours, choose-next}
 use Rattle.pairs.proofs.Compositions.{compositions-count}
 use Rattle.pairs.proofs.Blocks.{blockSize, blockAt, listed-block}
 use Rattle.pairs.proofs.Sequences.{sequenceAt}

@@ -1,0 +1,98 @@
+-- Where the pair call and the position call serve, both speak of one place in the list; so each undoes the other.
+use mathlib.Core.Bool.{false}
+use mathlib.Core.List.{[], _∷_, _++_}
+use mathlib.Core.Path.{_≡_, refl, sym, ap, _∙_}
+use Prim.Native.Nat.{ℕ, _%_, _≤_, _<_}
+use native.Mathlib.Omega.{arith}
+use borrow.Author.Tests.{lt-leb, leb-false, eq-eqb, ne-eqb, eqb-true, not-false}
+use lib.Dec.{leb, eqb}
+use lib.ListN.{length}
+use Rattle.reply.specs.Reply.{served, _gives_}
+use Rattle.reply.proofs.Order.{none-applies, none-refuses}
+use Rattle.poly.specs.Limits.{listLength}
+use Rattle.poly.specs.Coprime.{gcd}
+use Rattle.poly.specs.Causes.{degreeCause, codeCauses, commonFactor}
+use Rattle.poly.proofs.Binary.{coprime-one}
+use Rattle.poly.proofs.Ranges.{inside, on-degree, passed-codes}
+use Rattle.euclid.specs.Chain.{Pair}
+use Rattle.pairs.specs.Pairs.{pairs, entry, CoprimePair}
+use Rattle.pairs.specs.Replies.{pairReply, pairAtReply, indexOf, positionReply}
+use Rattle.pairs.specs.Claims.{UndoClaim}
+use Rattle.pairs.proofs.Pairs.{length-pairs}
+use Rattle.pairs.proofs.Standing.{entries-coprime, coprime-stands, index-stands}
+
+odd : (code : ℕ) → code % 2 ≡ 1 → eqb (code % 2) 0 ≡ false
+odd code e = ne-eqb (code % 2) 0 (λ z. omega arith)
+
+module _ (n : ℕ) (low : 1 ≤ n) (high : n ≤ 31) where
+  pub pair-answers : (j : ℕ) → j < listLength n → pairAtReply n j ≡ pairReply (entry n j)
+  unfolding pairAtReply
+  pair-answers j h = rw (inside 1 31 low high, lt-leb (listLength n) j h)
+
+  position-answers : (two : Pair) → CoprimePair n two
+      → positionReply n (two .f) (two .g) ≡ served (indexOf (two .f) (two .g) (pairs n) ∷ [])
+  unfolding positionReply codeCauses
+  position-answers two c =
+      none-refuses
+      (degreeCause n ∷ codeCauses n (two .f) ++ codeCauses n (two .g) ++ (commonFactor (two .f) (two .g) ∷ [])) _ (
+        inside 1 31 low high,
+        (
+          on-degree (c .degree-f),
+          (
+            odd (two .f) (c .odd-f),
+            (
+              on-degree (c .degree-g),
+              (
+                odd (two .g) (c .odd-g),
+                (rw (eq-eqb (gcd 2 (two .f) (two .g)) 1 (coprime-one (two .f) (two .g) .0 (c .coprime))), tt),
+              ),
+            ),
+          ),
+        ),
+      )
+
+  pub entry-found : (j : ℕ) → j < listLength n → positionReply n (entry n j .f) (entry n j .g) ≡ served (j ∷ [])
+  entry-found j h =
+      let below : j < length (pairs n) = rw length-pairs h in
+      let c = entries-coprime n j below in
+      let s = coprime-stands n low (entry n j) c in
+      position-answers (entry n j) c
+      ∙ ap (λ (v : ℕ). served (v ∷ [])) (index-stands n (entry n j) s ∙ sym (s .only j below refl))
+
+  pair-found : (j f g : ℕ) → pairAtReply n j ≡ served (f ∷ g ∷ []) → positionReply n f g ≡ served (j ∷ [])
+  unfolding pairAtReply
+  pair-found j f g e =
+      let (inner, (before-end, end)) = none-applies (degreeCause n ∷ leb (listLength n) j gives 2 ∷ []) _ _ e in
+      let h : j < listLength n = leb-false (listLength n) j before-end in
+      let given : served (entry n j .f ∷ entry n j .g ∷ []) ≡ served (f ∷ g ∷ []) = sym (pair-answers j h) ∙ e in
+      let ef : entry n j .f ≡ f = cc in
+      let eg : entry n j .g ≡ g = cc in
+      sym (λ i. positionReply n (ef i) (eg i)) ∙ entry-found j h
+
+  found-coprime : (j f g : ℕ) → positionReply n f g ≡ served (j ∷ []) → CoprimePair n (record { f = f; g = g })
+  unfolding positionReply codeCauses
+  found-coprime j f g e =
+      let causes = codeCauses n f ++ codeCauses n g ++ (commonFactor f g ∷ []) in
+      let (inner, none) = none-applies (degreeCause n ∷ causes) _ _ e in
+      let p = passed-codes n f g (commonFactor f g ∷ []) none in
+      record {
+        degree-f = p .degree-f;
+        degree-g = p .degree-g;
+        odd-f = p .odd-f;
+        odd-g = p .odd-g;
+        coprime = coprime-one f g .1 (eqb-true (gcd 2 f g) 1 (not-false (eqb (gcd 2 f g) 1) (none .1 .1 .1 .1 .0)));
+      }
+
+  position-served : (j f g : ℕ) → positionReply n f g ≡ served (j ∷ []) → pairAtReply n j ≡ served (f ∷ g ∷ [])
+  position-served j f g e =
+      let pair : Pair = record { f = f; g = g } in
+      let c = found-coprime j f g e in
+      let s = coprime-stands n low pair c in
+      let given : served (indexOf f g (pairs n) ∷ []) ≡ served (j ∷ []) = sym (position-answers pair c) ∙ e in
+      let index : indexOf f g (pairs n) ≡ j = cc in
+      let at : s .position ≡ j = sym (index-stands n pair s) ∙ index in
+      let below : s .position < listLength n = rw length-pairs at (s .below) in
+      ap (pairAtReply n) (sym at) ∙ pair-answers (s .position) below ∙ ap pairReply (s .there)
+
+pub calls-undo : UndoClaim
+calls-undo n low high j f g = (pair-found n low high j f g, position-served n low high j f g)
