@@ -1,15 +1,13 @@
 -- The codec in the words of document 01, over whole files: the two laws of the encoding, carried over to the replies.
-use mathlib.Core.Path.{_≡_, ap, _∙_}
-use Prim.Native.Nat.{ℕ, _-_, _≤_}
-use mathlib.Core.List.{List, [], _∷_, _++_, append-assoc}
-use native.Mathlib.Omega.{arith}
-use lib.ListN.{length, drop, length-append}
-use lib.Seq.{drop-at}
+use mathlib.Core.Path.{_≡_}
+use Prim.Native.Nat.{ℕ, _≤_}
+use mathlib.Core.List.{List, [], _∷_, _++_}
+use lib.ListN.{length}
 use borrow.Author.Tests.{le-ltb}
 use Rattle.reply.specs.Reply.{served}
 use Rattle.trial.specs.Parser.{parsed}
-use Rattle.trial.specs.Number.{AllBelow, encodeNumber, encodeNumbers}
-use Rattle.trial.specs.Trial.{Trial, encodeHead, encodeBody, encode, parse}
+use Rattle.trial.specs.Number.{AllBelow}
+use Rattle.trial.specs.Trial.{Trial, encode, parse}
 use Rattle.trial.specs.Replies.{over, contentCauses, roomCauses, writeReply, fileAfter}
 use Rattle.trial.proofs.Parser.{Clear, clear-append, clear-left, clear-unless, unless-clear}
 use Rattle.trial.proofs.Trial.{trial-back, trial-same}
@@ -39,13 +37,3 @@ read-back t room low-powers low-forces e =
     let room-causes = roomCauses room (length (encode t)) in
     let clear = clear-unless (contentCauses t ++ room-causes) (served (length (encode t) ∷ [])) e in
     trial-back t low-powers low-forces (clear-left (contentCauses t) room-causes clear)
-
--- The name is the end of the file.
-pub name-part : (file : List ℕ) {t : Trial} {rest : List ℕ} → AllBelow 256 file → parse file ≡ parsed t rest
-    → drop (length file - length (t .name)) file ≡ t .name
-unfolding encode encodeBody
-name-part file {t} below e =
-    let front = encodeHead (t .head) ++ (encodeNumbers (t .powers) ++ encodeNumbers (t .forces) ++ encodeNumber (length (t .name))) in
-    let whole : front ++ t .name ≡ file = append-assoc (encodeHead (t .head)) _ (t .name) ∙ trial-same file below e .same in
-    let size : length front ≡ length file - length (t .name) = omega (arith, length-append front (t .name), ap length whole) in
-    rw whole at (drop-at front (t .name) (length file - length (t .name)) size)

@@ -9,6 +9,7 @@ use Rattle.poly.specs.Division.{inverse, bringDown, divide}
 use Rattle.poly.specs.Coprime.{gcd}
 use Rattle.poly.specs.Limits.{outside}
 use Rattle.poly.specs.Causes.{offDegree, codeCauses}
+use Rattle.trial.specs.Parser.{parsed}
 use Rattle.trial.specs.Number.{encodeNumber, parseNumber}
 use Rattle.trial.specs.Trial.{Trial, encodeHead, encodeBody, encode, parseCodes, parseHead, parseText, parseName, parseEnd}
 use Rattle.trial.specs.Trial.{parseBody, parse}
@@ -38,6 +39,11 @@ withName bytes = headBytes ++ powerBytes ++ forceBytes ++ bytes
 encoded : encode (content 2 7 5 rising (0x41 ∷ [])) ≡ withName (0x01 ∷ 0x41 ∷ [])
 unfolding encode encodeBody encodeHead encodeNumber
 encoded = refl
+
+decoded : parse (withName (0x01 ∷ 0x41 ∷ [])) ≡ parsed (content 2 7 5 rising (0x41 ∷ [])) []
+unfolding parse parseHead parseCodes parseBody parseName parseText parseEnd parseNumber
+    outside offDegree codeCauses gcd divide bringDown inverse add scale degree
+decoded = refl
 
 -- A file, the room for each list of levels, and the reader's reply.
 record Reading : Type 0 where
@@ -102,6 +108,7 @@ writings =
     ∷ writing 2 7 7 rising (0x41 ∷ []) (refused 8)
     ∷ writing 2 7 5 (100 ∷ 110 ∷ 120 ∷ []) (0x41 ∷ []) (refused 4)
     ∷ writing 2 7 5 (100 ∷ 110 ∷ 110 ∷ 130 ∷ []) (0x41 ∷ []) (refused 14)
+    ∷ writing 2 7 5 (100 ∷ 110 ∷ 110 ∷ 130 ∷ []) (0x41 ∷ 0x42 ∷ []) (refused 14)
     ∷ writing 2 7 5 rising (replicate 41 0x41) (refused 15)
     ∷ writing 2 7 5 rising (0x7F ∷ []) (refused 16)
     ∷ writing 2 7 5 rising (0x41 ∷ 0x42 ∷ []) (refused 4)

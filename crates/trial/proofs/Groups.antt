@@ -11,7 +11,7 @@ use lib.Dec.{lit<}
 use borrow.Author.Tests.{lt-ltb, le-ltb}
 use Rattle.trial.specs.Parser.{Parsed, parsed, failed}
 use Rattle.trial.specs.Number.{above, parseGroups}
-use Rattle.trial.specs.Answers.{parseMore}
+use Rattle.trial.specs.Inner.{parseMore}
 
 -- The groups so far below the number that the bytes behind them give.
 abbrev pub onto : ℕ → ℕ → Parsed ℕ → Parsed ℕ

@@ -10,6 +10,7 @@ pub mod Groups
 pub mod Told
 pub mod Passes
 pub mod Text
+pub mod Part
 pub mod Reading
 pub mod Putting
 pub mod Writing

@@ -7,7 +7,7 @@ use native.Mathlib.Numerals.{add-one}
 use native.Mathlib.Omega.{arith}
 use lib.ListN.{length, set, length-set, length-append}
 use lib.Seq.{sets, length-sets}
-use Rattle.trial.specs.Answers.{Puts}
+use Rattle.trial.specs.Inner.{Puts}
 
 pub record Putting (out₀ out : List ℕ) (at next : ℕ) (all left : List ℕ) : Type 0 where
   pub place : next + length left ≡ at + length all

@@ -15,7 +15,8 @@ use Rattle.trial.specs.Parser.{parsed, failed}
 use Rattle.trial.specs.Levels.{parseLevels}
 use Rattle.trial.specs.Trial.{Trial, parse}
 use Rattle.trial.specs.Replies.{read, over}
-use Rattle.trial.specs.Answers.{LaidOut, ReadDone, LevelsThere, valuesOf}
+use Rattle.trial.specs.Inner.{LaidOut, LevelsThere, valuesOf}
+use Rattle.trial.specs.Answers.{ReadDone}
 use Rattle.trial.proofs.Bounds.{or-true}
 
 module _ (file : List ℕ) (p q : ℕ) where
@@ -34,7 +35,7 @@ module _ (file : List ℕ) (p q : ℕ) where
 module _ {file powers forces : List ℕ} where
   pub refused-done : {why : Refusal} → read (length powers) (length forces) file ≡ failed (numberOf why)
       → ReadDone file powers forces (Unreadable why) powers forces
-  refused-done e = record { reply = rw e; powersAfter = rw e; forcesAfter = rw e }
+  refused-done e = record { reply = rw e; name = rw e; powersAfter = rw e; forcesAfter = rw e }
 
   pub accepted-done : (t : Trial) (layout : Layout) {powers′ forces′ : List ℕ} → read (length powers) (length forces) file ≡ parsed t []
       → LaidOut file t layout → powers′ ≡ over (t .powers) powers → forces′ ≡ over (t .forces) forces
@@ -49,7 +50,12 @@ module _ {file powers forces : List ℕ} where
       powers′ forces′
   accepted-done t layout e laid p q =
       let start : length file - length (t .name) ≡ layout .name = omega (arith, laid .end, laid .size) in
-      record { reply = rw (e, start, laid .size, ← laid .head); powersAfter = rw (e, p); forcesAfter = rw (e, q) }
+      record {
+        reply = rw (e, start, laid .size, ← laid .head);
+        name = rw e (laid .name);
+        powersAfter = rw (e, p);
+        forcesAfter = rw (e, q);
+      }
 
 -- A list that was checked stands in the file, and is what is stored.
 module _ (file : List ℕ) (at n : ℕ) {count : ℕ} (count-is : count ≡ 2 ^ n) {levels rest : List ℕ}

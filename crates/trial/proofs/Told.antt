@@ -11,7 +11,7 @@ use Rattle.trial.specs.declared.numbers.ReadNumber.the-variants.{Value, 
 use Rattle.trial.specs.declared.lists.Behind.{Behind}
 use Rattle.trial.specs.declared.lists.Behind.the-variants.{At, Refused as Impassable}
 use Rattle.trial.specs.Parser.{Parsed, parsed, failed, Parser, pure, barring, checked}
-use Rattle.trial.specs.Answers.{numberParsed, Reads, behind, behindParsed, Passes}
+use Rattle.trial.specs.Inner.{numberParsed, Reads, behind, behindParsed, Passes}
 use Rattle.trial.proofs.Parser.{failed-not-parsed, Clear, barring-clear}
 
 module _ (parser : Parser ℕ) (file : List ℕ) (at : ℕ) {r : ReadNumber} (reads : Reads parser file at r) where

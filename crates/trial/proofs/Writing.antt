@@ -16,7 +16,8 @@ use Rattle.reply.specs.declared.Refusal.{Refusal}
 use Rattle.trial.specs.declared.writer.Written.the-variants.{Length, Refused as Unwritten}
 use Rattle.trial.specs.Trial.{Trial, encode, headCauses}
 use Rattle.trial.specs.Replies.{bodyCauses, contentCauses, roomCauses, writeReply}
-use Rattle.trial.specs.Answers.{Short, Puts, WriteDone}
+use Rattle.trial.specs.Inner.{Short, Puts}
+use Rattle.trial.specs.Answers.{WriteDone}
 use Rattle.trial.proofs.Bounds.{not-outside}
 use Rattle.trial.proofs.Parser.{or-false, clear-left, clear-right, clear-unless, refused-first, passed-first}
 

@@ -4,3 +4,4 @@ pub mod Levels
 pub mod Trial
 pub mod Replies
 pub mod Answers
+pub mod Inner

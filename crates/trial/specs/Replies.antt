@@ -19,6 +19,11 @@ readReply size (parsed t rest) =
     served (t .head .degree ∷ t .head .f ∷ t .head .g ∷ (size - length (t .name)) ∷ length (t .name) ∷ [])
 readReply size (failed number) = refused number
 
+-- The name that the reader gives; none where the file is refused.
+abbrev pub nameRead : Parsed Trial → List ℕ
+nameRead (parsed t rest) = t .name
+nameRead (failed number) = []
+
 -- Values put at the front of a slice; what stands behind them stays.
 abbrev pub over : List ℕ → List ℕ → List ℕ
 over values slice = values ++ drop (length values) slice
@@ -28,23 +33,19 @@ abbrev pub levelsAfter : (Trial → List ℕ) → Parsed Trial → List ℕ → 
 levelsAfter list (parsed trial rest) slice = over (list trial) slice
 levelsAfter list (failed number) slice = slice
 
--- 4: a list of levels is not of the length that the degree asks.
-abbrev pub lengthCauses : ℕ → List ℕ → List ℕ → List Cause
-lengthCauses order powers forces = (not (eqb (length powers) order) || not (eqb (length forces) order)) gives 4 ∷ []
-
--- 14: the powers are not in order; the forces are not.
-abbrev pub orderCauses : List ℕ → List ℕ → List Cause
-orderCauses powers forces = disordered powers gives 14 ∷ disordered forces gives 14 ∷ []
+-- 4: a list of levels is not of the length that the degree asks; 14: the powers are out of order; 14: the forces are.
+abbrev pub listCauses : ℕ → List ℕ → List ℕ → List Cause
+listCauses order powers forces =
+    (not (eqb (length powers) order) || not (eqb (length forces) order)) gives 4
+    ∷ disordered powers gives 14
+    ∷ disordered forces gives 14
+    ∷ []
 
 -- 15: too long; 16: a byte outside 32 to 126.
 abbrev pub nameCauses : List ℕ → List Cause
 nameCauses name = sizeCauses (length name) ++ (anyUnprintable name gives 16 ∷ [])
 
--- What the writer refuses the lists for.
-abbrev pub listCauses : ℕ → List ℕ → List ℕ → List Cause
-listCauses order powers forces = lengthCauses order powers forces ++ orderCauses powers forces
-
--- What the writer refuses the lists and the name for, behind the head.
+-- What the writer refuses the rest of a content for, behind the head.
 abbrev pub bodyCauses : Trial → List Cause
 bodyCauses t = listCauses (2 ^ t .head .degree) (t .powers) (t .forces) ++ nameCauses (t .name)
 

@@ -66,12 +66,12 @@ parseHead = field versionCauses >>= λ _. field degreeCauses >>= parseCodes
 abbrev pub sizeCauses : ℕ → List Cause
 sizeCauses size = ltb 40 size gives 15 ∷ []
 
--- A byte outside 32 to 126.
+-- Some byte is outside 32 to 126.
 abbrev pub anyUnprintable : List ℕ → Bool
 anyUnprintable [] = false
 anyUnprintable (byte ∷ bytes) = outside 32 126 byte || anyUnprintable bytes
 
--- The front of the bytes as a name of that size. 9: some are missing; 16: one is outside 32 to 126.
+-- What a name of that size at the front of the bytes is refused for. 9: some are missing; 16: one is outside 32 to 126.
 abbrev pub textCauses : ℕ → List ℕ → List Cause
 textCauses size bytes = ltb (length bytes) size gives 9 ∷ anyUnprintable (take size bytes) gives 16 ∷ []
 

@@ -8,9 +8,9 @@ use reply::Refusal;
 ghost use Rattle.poly.specs.Causes.{codeCauses};
 ghost use Rattle.trial.specs.Number.{field};
 ghost use Rattle.trial.specs.Trial.{versionCauses, degreeCauses, pairCauses, sizeCauses, parseCodes, parseHead};
-ghost use Rattle.trial.specs.Answers.{Reads, HeadRead};
+ghost use Rattle.trial.specs.Inner.{Reads, HeadRead};
 
-pub fn version_field(file: &[u8], at: usize) -> ReadNumber
+fn version_field(file: &[u8], at: usize) -> ReadNumber
     ensures { λ r. ⌜ Reads (field versionCauses) (now (file .entry)) at r ⌝ }
 {
     match read_number(file, at) {
@@ -24,7 +24,7 @@ pub fn version_field(file: &[u8], at: usize) -> ReadNumber
     }
 }
 
-pub fn degree_field(file: &[u8], at: usize) -> ReadNumber
+fn degree_field(file: &[u8], at: usize) -> ReadNumber
     ensures { λ r. ⌜ Reads (field degreeCauses) (now (file .entry)) at r ⌝ }
 {
     match read_number(file, at) {
@@ -41,7 +41,7 @@ pub fn degree_field(file: &[u8], at: usize) -> ReadNumber
     }
 }
 
-pub fn code_field(file: &[u8], at: usize, n: u32) -> ReadNumber
+fn code_field(file: &[u8], at: usize, n: u32) -> ReadNumber
     ensures { λ r. ⌜ Reads (field (codeCauses n)) (now (file .entry)) at r ⌝ }
 {
     match read_number(file, at) {
@@ -54,7 +54,7 @@ pub fn code_field(file: &[u8], at: usize, n: u32) -> ReadNumber
 }
 
 // The code of g, which has no common factor with f.
-pub fn pair_field(file: &[u8], at: usize, n: u32, f: u32) -> ReadNumber
+fn pair_field(file: &[u8], at: usize, n: u32, f: u32) -> ReadNumber
     ensures { λ r. ⌜ Reads (field (pairCauses n f)) (now (file .entry)) at r ⌝ }
 {
     match code_field(file, at, n) {
@@ -68,7 +68,7 @@ pub fn pair_field(file: &[u8], at: usize, n: u32, f: u32) -> ReadNumber
     }
 }
 
-pub fn size_field(file: &[u8], at: usize) -> ReadNumber
+pub(crate) fn size_field(file: &[u8], at: usize) -> ReadNumber
     ensures { λ r. ⌜ Reads (field sizeCauses) (now (file .entry)) at r ⌝ }
 {
     match read_number(file, at) {
@@ -82,19 +82,19 @@ pub fn size_field(file: &[u8], at: usize) -> ReadNumber
     }
 }
 
-pub struct Head {
+pub(crate) struct Head {
     pub degree: u32,
     pub f: u32,
     pub g: u32,
 }
 
 // The fields in front of the levels with the position behind them, or what the file is refused for.
-pub enum ReadHead {
+pub(crate) enum ReadHead {
     Found(Head, usize),
     Refused(Refusal),
 }
 
-pub fn read_head(file: &[u8]) -> ReadHead
+pub(crate) fn read_head(file: &[u8]) -> ReadHead
     ensures { λ r. ⌜ HeadRead parseHead (now (file .entry)) 0 r ⌝ }
 {
     match version_field(file, 0) {

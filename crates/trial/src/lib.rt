@@ -8,6 +8,9 @@ mod writer;
 
 pub use reader::Content;
 pub use reader::ReadTrial;
+pub use reader::Trial;
+pub use reader::name_part;
+pub use reader::open;
 pub use reader::read;
 pub use writer::Written;
 pub use writer::write;

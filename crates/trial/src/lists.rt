@@ -12,16 +12,16 @@ ghost use lib.ListN.{length, drop};
 ghost use Rattle.trial.specs.Number.{encodeNumbers};
 ghost use Rattle.trial.specs.Levels.{disordered, parseLevels};
 ghost use Rattle.trial.specs.Replies.{over};
-ghost use Rattle.trial.specs.Answers.{Passes, LevelsThere, valuesOf, Puts};
+ghost use Rattle.trial.specs.Inner.{Passes, LevelsThere, valuesOf, Puts};
 
 // The position behind what was checked, or what it is refused for.
-pub enum Behind {
+pub(crate) enum Behind {
     At(usize),
     Refused(Refusal),
 }
 
 // Checks so many levels at a position of the file.
-pub fn check_levels(file: &[u8], at: usize, count: usize) -> Behind
+pub(crate) fn check_levels(file: &[u8], at: usize, count: usize) -> Behind
     requires { ⌜ at ≤ length (now file) ⌝ }
     ensures { λ r. ⌜ Passes (parseLevels count []) (now (file .entry)) at r ⌝ }
 {
@@ -48,7 +48,7 @@ pub fn check_levels(file: &[u8], at: usize, count: usize) -> Behind
 }
 
 // Stores so many levels, which were checked at a position of the file, at the front of `out`.
-pub fn store_levels(file: &[u8], at: usize, count: usize, out: &mut [u16])
+pub(crate) fn store_levels(file: &[u8], at: usize, count: usize, out: &mut [u16])
     requires { ⌜ LevelsThere (now file) at count (now out) ⌝ }
     ensures { λ _. ⌜ now (out .exit) ≡ over (valuesOf (parseLevels count [] (drop at (now (file .entry))))) (now (out .entry)) ⌝ }
 {
@@ -73,7 +73,7 @@ fn wide(level: u16) -> u32
 }
 
 // Whether the levels are in order.
-pub fn ordered(levels: &[u16]) -> bool
+pub(crate) fn ordered(levels: &[u16]) -> bool
     ensures { λ r. ⌜ r ≡ not (disordered (now (levels .entry))) ⌝ }
 {
     let mut least: u32 = 0;
@@ -90,7 +90,7 @@ pub fn ordered(levels: &[u16]) -> bool
 }
 
 // How many bytes the levels take.
-pub fn levels_width(levels: &[u16]) -> usize
+pub(crate) fn levels_width(levels: &[u16]) -> usize
     requires { ⌜ length (now levels) ≤ 64 ⌝ }
     ensures { λ r. ⌜ (r ≡ length (encodeNumbers (now (levels .entry)))) × (r ≤ 320) ⌝ }
 {
@@ -104,7 +104,7 @@ pub fn levels_width(levels: &[u16]) -> usize
 }
 
 // Puts the levels at a position of `out`, and gives the position behind them.
-pub fn put_levels(out: &mut [u8], at: usize, levels: &[u16]) -> usize
+pub(crate) fn put_levels(out: &mut [u8], at: usize, levels: &[u16]) -> usize
     requires { ⌜ at + length (encodeNumbers (now levels)) ≤ length (now out) ⌝ }
     ensures { λ r. ⌜ Puts (now (out .entry)) at (encodeNumbers (now (levels .entry))) r (now (out .exit)) ⌝ }
 {

@@ -8,10 +8,10 @@ ghost use Prim.Native.Nat.{_+_, _≤_};
 ghost use lib.ListN.{length};
 ghost use lib.Seq.{slice};
 ghost use Rattle.trial.specs.Trial.{anyUnprintable};
-ghost use Rattle.trial.specs.Answers.{NameRead, Puts};
+ghost use Rattle.trial.specs.Inner.{NameRead, Puts};
 
 // Whether the bytes from `start` to `end` are all from 32 to 126.
-pub fn printable(bytes: &[u8], start: usize, end: usize) -> bool
+pub(crate) fn printable(bytes: &[u8], start: usize, end: usize) -> bool
     requires { ⌜ (start ≤ end) × (end ≤ length (now bytes)) ⌝ }
     ensures { λ r. ⌜ r ≡ not (anyUnprintable (slice start end (now (bytes .entry)))) ⌝ }
 {
@@ -30,13 +30,13 @@ pub fn printable(bytes: &[u8], start: usize, end: usize) -> bool
 }
 
 // Where the name is in the file, or what it is refused for.
-pub enum ReadName {
+pub(crate) enum ReadName {
     Found { start: usize, size: usize },
     Refused(Refusal),
 }
 
 // The name whose size stands at a position of the file, with nothing behind it.
-pub fn read_name(file: &[u8], at: usize) -> ReadName
+pub(crate) fn read_name(file: &[u8], at: usize) -> ReadName
     ensures { λ r. ⌜ NameRead (now (file .entry)) at r ⌝ }
 {
     match size_field(file, at) {
@@ -59,7 +59,7 @@ pub fn read_name(file: &[u8], at: usize) -> ReadName
 }
 
 // Puts the bytes of a name at a position of `out`, and gives the position behind them.
-pub fn put_name(out: &mut [u8], at: usize, name: &[u8]) -> usize
+pub(crate) fn put_name(out: &mut [u8], at: usize, name: &[u8]) -> usize
     requires { ⌜ at + length (now name) ≤ length (now out) ⌝ }
     ensures { λ r. ⌜ Puts (now (out .entry)) at (now (name .entry)) r (now (out .exit)) ⌝ }
 {

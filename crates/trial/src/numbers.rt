@@ -4,10 +4,10 @@ ghost use mathlib.Core.Path.{_≡_};
 ghost use Prim.Native.Nat.{_+_, _<_, _≤_};
 ghost use lib.ListN.{length};
 ghost use Rattle.trial.specs.Number.{encodeNumber, number};
-ghost use Rattle.trial.specs.Answers.{parseMore, Reads, Puts};
+ghost use Rattle.trial.specs.Inner.{parseMore, Reads, Puts};
 
 // A number of the file with the position behind it, or what it is refused for.
-pub enum ReadNumber {
+pub(crate) enum ReadNumber {
     Value(u32, usize),
     Refused(Refusal),
 }
@@ -19,7 +19,7 @@ fn wide(byte: u8) -> u64
 }
 
 // The number at a position of the file.
-pub fn read_number(file: &[u8], at: usize) -> ReadNumber
+pub(crate) fn read_number(file: &[u8], at: usize) -> ReadNumber
     ensures { λ r. ⌜ Reads number (now (file .entry)) at r ⌝ }
 {
     if file.len() <= at {
@@ -65,7 +65,7 @@ fn read_more(file: &[u8], at: usize, low: u64) -> ReadNumber
 }
 
 // How many bytes a number takes.
-pub fn width(value: u32) -> usize
+pub(crate) fn width(value: u32) -> usize
     ensures { λ r. ⌜ (r ≡ length (encodeNumber value)) × (r ≤ 5) ⌝ }
 {
     if value < 128 {
@@ -84,7 +84,7 @@ pub fn width(value: u32) -> usize
 }
 
 // Puts a number at a position of `out`, and gives the position behind it.
-pub fn put_number(out: &mut [u8], at: usize, value: u32) -> usize
+pub(crate) fn put_number(out: &mut [u8], at: usize, value: u32) -> usize
     requires { ⌜ at + length (encodeNumber value) ≤ length (now out) ⌝ }
     ensures { λ r. ⌜ Puts (now (out .entry)) at (encodeNumber value) r (now (out .exit)) ⌝ }
 {

@@ -11,10 +11,11 @@ use reply::Refusal;
 ghost use mathlib.Core.Path.{_≡_};
 ghost use Prim.Native.Nat.{_^_, _≤_};
 ghost use lib.ListN.{length};
-ghost use Rattle.trial.specs.Answers.{Surveys, BodySurveys, ReadDone};
+ghost use Rattle.trial.specs.Inner.{Surveys, BodySurveys};
+ghost use Rattle.trial.specs.Answers.{ReadDone, namePart, Opens};
 
-// How many levels a list has.
-pub fn order(degree: u32) -> usize
+// How many levels a list has. `Degree::order` answers for every degree, with refusals; here the degree is known to be 6 at most.
+pub(crate) fn order(degree: u32) -> usize
     requires { ⌜ degree ≤ 6 ⌝ }
     ensures { λ r. ⌜ r ≡ 2 ^ degree ⌝ }
 {
@@ -22,7 +23,7 @@ pub fn order(degree: u32) -> usize
 }
 
 // An accepted file: its head, and where its lists and its name begin.
-pub struct Layout {
+struct Layout {
     pub head: Head,
     pub powers: usize,
     pub forces: usize,
@@ -30,13 +31,13 @@ pub struct Layout {
     pub size: usize,
 }
 
-pub enum Verdict {
+enum Verdict {
     Accepted(Layout),
     Refused(Refusal),
 }
 
 // The whole decision on a file.
-pub fn survey(file: &[u8]) -> Verdict
+fn survey(file: &[u8]) -> Verdict
     ensures { λ r. ⌜ Surveys (now (file .entry)) r ⌝ }
 {
     match read_head(file) {
@@ -115,4 +116,42 @@ pub fn read(file: &[u8], powers: &mut [u16], forces: &mut [u16]) -> ReadTrial
             })
         }
     }
+}
+
+// The part of a file that holds the name, where the reader's answer says; empty where the file was refused.
+pub fn name_part<'a>(file: &'a [u8], answer: ReadTrial) -> &'a [u8]
+    ensures { λ r. ⌜ now r ≡ namePart (now (file .entry)) answer ⌝ }
+{
+    match answer {
+        ReadTrial::Refused(_) => return &file[..0],
+        ReadTrial::Content(content) => {
+            let start = content.name;
+            let size = content.size;
+            if file.len() < start {
+                return &file[..0];
+            }
+            if file.len() - start < size {
+                return &file[start..];
+            }
+            let end = start + size;
+            return &file[start..end];
+        }
+    }
+}
+
+// A file that was read: the answer, and the name as the part of the file that holds it.
+pub struct Trial<'a> {
+    pub answer: ReadTrial,
+    pub name: &'a [u8],
+}
+
+// Reads a file, with its levels into the two slices and its name as a part of the file.
+pub fn open<'a>(file: &'a [u8], powers: &mut [u16], forces: &mut [u16]) -> Trial<'a>
+    ensures { λ r.
+        ⌜ Opens (now (file .entry)) (now (powers .entry)) (now (forces .entry)) r
+        (now (powers .exit)) (now (forces .exit)) ⌝ }
+{
+    let answer = read(file, powers, forces);
+    let name = name_part(file, answer);
+    Trial { answer, name }
 }

@@ -18,7 +18,8 @@ ghost use Rattle.reply.specs.Reply.{served, unless};
 ghost use Rattle.poly.specs.Replies.{checkedReply};
 ghost use Rattle.trial.specs.Trial.{headCauses, encodeHead, encodeBody, encode};
 ghost use Rattle.trial.specs.Replies.{listCauses, nameCauses, contentCauses};
-ghost use Rattle.trial.specs.Answers.{headFrom, trialFrom, Short, BodyFits, Puts, WriteDone};
+ghost use Rattle.trial.specs.Inner.{Short, BodyFits, Puts};
+ghost use Rattle.trial.specs.Answers.{headFrom, trialFrom, WriteDone};
 
 // What a head is refused for.
 fn check_head(degree: u32, f: u32, g: u32) -> Checked

@@ -1,8 +1,11 @@
 -- `read_name` meets its contract: the size is read, and each test is one of the causes behind it.
-use mathlib.Core.Path.{sym}
-use Prim.Native.Nat.{_+_}
+use mathlib.Core.Path.{_≡_, sym}
+use mathlib.Core.Bool.{false, not}
+use Prim.Native.Nat.{_+_, _≤_}
+use lib.ListN.{length, drop}
 use lib.Seq.{slice}
 use native.Mathlib.Omega.{arith}
+use Rattle.trial.specs.Parser.{parsed}
 use Rattle.trial.specs.Number.{field}
 use Rattle.trial.specs.Trial.{sizeCauses, anyUnprintable, parseName}
 use Rattle.trial.proofs.Bounds.{denied, upheld}
@@ -12,62 +15,65 @@ use borrow.Author.Needs.{needs}
 use Rattle.trial.proofs.names.read_name.Statement.{statement}
 use Rattle.trial.proofs.names.read_name.Tie as tie
 
+-- The function's entry, from where the size was read.
+abbrev entry : tie.After-count → tie.Start
+entry c = c .before .before .before .before
+
+size-read : (c : tie.After-count) →
+    let a = entry c .args in
+    let v = c .count .given .0 in
+    field sizeCauses (drop (a .at) (a .file .now)) ≡ parsed (v .0) (drop (v .1 .0) (a .file .now))
+size-read c =
+    let a = entry c .args in
+    value-told (field sizeCauses) (a .file .now) (a .at) (c .before .before .size-field .ensures) (c .count .given .1)
+
+size-inside : (c : tie.After-count) → c .count .given .0 .1 .0 ≤ length (entry c .args .file .now)
+size-inside c =
+    let a = entry c .args in
+    inside-told (field sizeCauses) (a .file .now) (a .at) (c .before .before .size-field .ensures) (c .count .given .1)
+
 sub-if1 : tie.Need-sub-if1
-sub-if1 c =
-    let a = c .before .before .before .before .before .args in
-    let r = c .before .before .before .size-field .ensures in
-    let v = c .before .count .given in
-    let inside = inside-told (field sizeCauses) (a .file .now) (a .at) r (v .1) in
-    inside
+sub-if1 c = size-inside (c .before)
 
 returns : tie.Need-returns
 returns c =
-    let a = c .before .before .before .before .before .before .args in
-    let r = c .before .before .before .before .size-field .ensures in
-    let v = c .before .before .count .given in
-    let inside = inside-told (field sizeCauses) (a .file .now) (a .at) r (v .1) in
-    let e = value-told (field sizeCauses) (a .file .now) (a .at) r (v .1) in
-    record { says = sym (name-missing (a .file .now) (a .at) (v .0 .0) (v .0 .1 .0) e (c .if1 .taken)); inside = tt }
+    let at = c .before .before in
+    let a = entry at .args in
+    let v = at .count .given .0 in
+    record { says = sym (name-missing (a .file .now) (a .at) (v .0) (v .1 .0) (size-read at) (c .if1 .taken)); inside = tt }
 
 printable-requires : tie.Need-printable-requires
 printable-requires c κs =
-    let a = c .before .before .before .before .before .before .args in
-    let r = c .before .before .before .before .size-field .ensures in
-    let v = c .before .before .count .given in
-    let inside = inside-told (field sizeCauses) (a .file .now) (a .at) r (v .1) in
+    let inside = size-inside (c .before .before) in
     omega arith
 
 returns-2 : tie.Need-returns-2
 returns-2 c =
-    let a = c .before .before .before .before .before .before .before .before .args in
-    let r = c .before .before .before .before .before .before .size-field .ensures in
-    let v = c .before .before .before .before .count .given in
-    let inside = inside-told (field sizeCauses) (a .file .now) (a .at) r (v .1) in
-    let e = value-told (field sizeCauses) (a .file .now) (a .at) r (v .1) in
+    let at = c .before .before .before .before in
+    let a = entry at .args in
+    let v = at .count .given .0 in
     let u =
-    denied (c .before .printable .result) (anyUnprintable (slice (v .0 .1 .0) (v .0 .1 .0 + v .0 .0) (a .file .now)))
+    denied (c .before .printable .result) (anyUnprintable (slice (v .1 .0) (v .1 .0 + v .0) (a .file .now)))
     (c .before .printable .ensures) (c .if2 .taken) in
-    record {
-      says =
-          sym (name-unprintable (a .file .now) (a .at) (v .0 .0) (v .0 .1 .0) e inside (c .before .before .if1 .left) u);
-      inside = tt;
-    }
+    let says = name-unprintable (a .file .now) (a .at) (v .0) (v .1 .0) (size-read at) (size-inside at) (c .before .before .if1 .left) u in
+    record { says = sym says; inside = tt }
+
+-- Every byte of the name is from 32 to 126.
+printed : (c : tie.After-printable) → not (c .printable .result) ≡ false →
+    let at = c .before .before .before in
+    let v = at .count .given .0 in
+    anyUnprintable (slice (v .1 .0) (v .1 .0 + v .0) (entry at .args .file .now)) ≡ false
+printed c left = upheld (c .printable .result) _ (c .printable .ensures) left
 
 returns-3 : tie.Need-returns-3
 returns-3 c =
-    let a = c .before .before .before .before .before .before .before .before .before .args in
-    let r = c .before .before .before .before .before .before .before .size-field .ensures in
-    let v = c .before .before .before .before .before .count .given in
-    let inside = inside-told (field sizeCauses) (a .file .now) (a .at) r (v .1) in
-    let e = value-told (field sizeCauses) (a .file .now) (a .at) r (v .1) in
-    let p =
-    upheld (c .before .before .printable .result) (anyUnprintable (slice (v .0 .1 .0) (v .0 .1 .0 + v .0 .0) (a .file .now)))
-    (c .before .before .printable .ensures) (c .before .if2 .left) in
-    record {
-      says =
-          sym (name-trails (a .file .now) (a .at) (v .0 .0) (v .0 .1 .0) e inside (c .before .before .before .if1 .left) p (c .if3 .taken));
-      inside = tt;
-    }
+    let at = c .before .before .before .before .before in
+    let a = entry at .args in
+    let v = at .count .given .0 in
+    let says =
+    name-trails (a .file .now) (a .at) (v .0) (v .1 .0) (size-read at) (size-inside at) (c .before .before .before .if1 .left)
+    (printed (c .before .before) (c .before .if2 .left)) (c .if3 .taken) in
+    record { says = sym says; inside = tt }
 
 returns-4 : tie.Need-returns-4
 unfolding parseName
@@ -80,19 +86,13 @@ returns-4 c =
 
 returns-5 : tie.Need-returns-5
 returns-5 c =
-    let a = c .before .before .before .before .before .before .before .before .before .args in
-    let r = c .before .before .before .before .before .before .before .size-field .ensures in
-    let v = c .before .before .before .before .before .count .given in
-    let inside = inside-told (field sizeCauses) (a .file .now) (a .at) r (v .1) in
-    let e = value-told (field sizeCauses) (a .file .now) (a .at) r (v .1) in
-    let p =
-    upheld (c .before .before .printable .result) (anyUnprintable (slice (v .0 .1 .0) (v .0 .1 .0 + v .0 .0) (a .file .now)))
-    (c .before .before .printable .ensures) (c .before .if2 .left) in
-    record {
-      says =
-          sym (name-last (a .file .now) (a .at) (v .0 .0) (v .0 .1 .0) e inside (c .before .before .before .if1 .left) p (c .if3 .left));
-      inside = omega arith;
-    }
+    let at = c .before .before .before .before .before in
+    let a = entry at .args in
+    let v = at .count .given .0 in
+    let says =
+    name-last (a .file .now) (a .at) (v .0) (v .1 .0) (size-read at) (size-inside at) (c .before .before .before .if1 .left)
+    (printed (c .before .before) (c .before .if2 .left)) (c .if3 .left) in
+    record { says = sym says; inside = omega (arith, size-inside at) }
 
 pub read-name-spec : {M : Type 1} → statement M
 read-name-spec =

@@ -4,7 +4,7 @@ use lib.ListN.{length}
 use Rattle.trial.specs.declared.reader.Verdict.the-variants.{Accepted}
 use Rattle.trial.specs.Trial.{parse}
 use Rattle.trial.specs.Replies.{read}
-use Rattle.trial.specs.Answers.{Settles}
+use Rattle.trial.specs.Inner.{Settles}
 use Rattle.trial.proofs.Reading.{short-powers, short-forces, room-enough, refused-done, accepted-done, levels-there, levels-stored}
 use borrow.Author.Needs.{needs}
 use Rattle.trial.proofs.reader.read.Statement.{statement}

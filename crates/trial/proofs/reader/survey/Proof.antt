@@ -3,7 +3,7 @@ use mathlib.Core.Path.{_≡_, sym, ap, _∙_}
 use lib.ListN.{drop}
 use Rattle.trial.specs.Parser.{parsed}
 use Rattle.trial.specs.Trial.{parseHead, parse}
-use Rattle.trial.specs.Answers.{headOf, headParsed}
+use Rattle.trial.specs.Inner.{headOf, headParsed}
 use Rattle.trial.proofs.Trial.{head-degree}
 use borrow.Author.Needs.{needs}
 use Rattle.trial.proofs.reader.survey.Statement.{statement}

@@ -7,7 +7,7 @@ use lib.ListN.{length, take, drop, length-drop}
 use lib.Seq.{length-take-le}
 use Rattle.trial.specs.Levels.{parseLevels}
 use Rattle.trial.specs.Trial.{parseBody}
-use Rattle.trial.specs.Answers.{headOf, nameParsed}
+use Rattle.trial.specs.Inner.{headOf, nameParsed}
 use Rattle.trial.proofs.Told.{Passed, passed-told, passed-inside, impasse-told}
 use borrow.Author.Needs.{needs}
 use Rattle.trial.proofs.reader.survey_body.Statement.{statement}
@@ -95,6 +95,7 @@ returns-4 c =
         rest = _;
         powers = p .is;
         forces = q .is;
+        name = refl;
         size = length-take-le size (drop start file) enough;
         end = end;
       },

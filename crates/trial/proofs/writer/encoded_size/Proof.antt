@@ -1,4 +1,5 @@
 -- `encoded_size` meets its contract: the length of the encoding is the sum of its parts' lengths, each of them small.
+use Prim.Native.Nat.{_+_, _≤_}
 use native.Mathlib.Omega.{arith}
 use lib.ListN.{length-append}
 use Rattle.trial.specs.Trial.{encodeHead, encodeBody, encode}
@@ -21,8 +22,12 @@ add-result c =
       c .before .before .before .before .before .width .ensures .1,
     )
 
-add-result-2 : tie.Need-add-result-2
-add-result-2 c =
+-- The seven numbers in front of the name's bytes take 665 bytes at most.
+narrow : (c : tie.After-width5) →
+    c .width5 .result + c .before .levels-width2 .result + c .before .before .levels-width .result
+    + c .before .before .before .width4 .result + c .before .before .before .before .width3 .result
+    + c .before .before .before .before .before .width2 .result + c .before .before .before .before .before .before .width .result ≤ 665
+narrow c =
     omega (
       arith,
       c .width5 .ensures .1,
@@ -34,19 +39,12 @@ add-result-2 c =
       c .before .before .before .before .before .before .width .ensures .1,
     )
 
+add-result-2 : tie.Need-add-result-2
+add-result-2 c = omega (arith, narrow c)
+
 add-result-3 : tie.Need-add-result-3
 add-result-3 c =
-    omega (
-      arith,
-      c .before .before .before .before .before .before .before .before .before .before .pre .shortName,
-      c .width5 .ensures .1,
-      c .before .levels-width2 .ensures .1,
-      c .before .before .levels-width .ensures .1,
-      c .before .before .before .width4 .ensures .1,
-      c .before .before .before .before .width3 .ensures .1,
-      c .before .before .before .before .before .width2 .ensures .1,
-      c .before .before .before .before .before .before .width .ensures .1,
-    )
+    omega (arith, c .before .before .before .before .before .before .before .before .before .before .pre .shortName, narrow c)
 
 returns : tie.Need-returns
 unfolding encode encodeHead encodeBody
