@@ -135,6 +135,89 @@ def sheets():
     return total
 
 
+FILES = [
+    bytes.fromhex("01 02 07 05 64 6E 78 82 01 C8 01 DC 01 F0 01 84 02 01 41"),
+    bytes.fromhex("01 03 0F 0B 00 01 7F 80 01 FF 7F 80 80 01 81 80 01 FF FF 03 05 09 46 AC 02 AD 02 84 07 A0 9C 01 FE FF 03")
+    + b"\x08Line 3 ~",
+    bytes.fromhex("01 02 05 07 01 02 03 04 09 C0 3E C1 3E E0 D4 03 00"),
+]
+
+
+class Refused(Exception):
+    """With the number of document 01."""
+
+
+def must(holds, number):
+    if not holds:
+        raise Refused(number)
+
+
+def number_at(file, at):
+    """A number in groups of seven bits, lowest first, and the place behind it."""
+    ends = [k for k in range(at, min(at + 5, len(file))) if file[k] < 128]
+    must(ends or len(file) - at >= 5, 9)
+    must(ends and (ends[0] == at or file[ends[0]]), 10)
+    value = sum(file[k] % 128 << 7 * (k - at) for k in range(at, ends[0] + 1))
+    must(value < 2**32, 10)
+    return value, ends[0] + 1
+
+
+def levels_at(file, at, count):
+    levels = []
+    while len(levels) < count:
+        level, at = number_at(file, at)
+        must(level < 2**16, 13)
+        must(not levels or levels[-1] < level, 14)
+        levels.append(level)
+    return levels, at
+
+
+def code_at(file, at, n):
+    code, at = number_at(file, at)
+    must(code.bit_length() == n + 1, 6)
+    must(code % 2, 7)
+    return code, at
+
+
+def parsed(file):
+    """Degree, f, g, the name's place and length, and both lists of levels."""
+    version, at = number_at(file, 0)
+    must(version == 1, 11)
+    n, at = number_at(file, at)
+    must(2 <= n <= 6, 12)
+    f, at = code_at(file, at, n)
+    g, at = code_at(file, at, n)
+    must(chain(f, g)[1] == 1, 8)
+    powers, at = levels_at(file, at, 2**n)
+    forces, at = levels_at(file, at, 2**n)
+    size, at = number_at(file, at)
+    must(size <= 40, 15)
+    must(at + size <= len(file), 9)
+    must(all(32 <= byte <= 126 for byte in file[at : at + size]), 16)
+    must(at + size == len(file), 17)
+    return [n, f, g, at, size], powers, forces
+
+
+def reading(total, file):
+    """The answer behind both slices of 64 levels, in which 7 and 8 stood before."""
+    try:
+        answer, powers, forces = parsed(file)
+    except Refused as refused:
+        answer, powers, forces = refused.args, [], []
+    return mixed(total, *powers, *[7] * (64 - len(powers)), *forces, *[8] * (64 - len(forces)), *answer)
+
+
+def damaged():
+    total = 0
+    for file in FILES:
+        for at in range(len(file)):
+            for value in range(256):
+                total = reading(total, file[:at] + bytes([value]) + file[at + 1 :])
+        for size in range(len(file) + 1):
+            total = reading(total, file[:size])
+    return total
+
+
 def lists(most):
     """Degree, length and checksum of each list; up to degree 8, how many positions are found back: all of them."""
     for n in range(2, most + 1):
@@ -201,3 +284,4 @@ if __name__ == "__main__":
     print(sheets())
     lists(12)
     print(spread(), 101)
+    print(damaged())

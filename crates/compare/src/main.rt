@@ -1,5 +1,6 @@
 // Prints what the library computes, to be held against the values of tests/reference.py, which knows nothing of it.
 mod checks;
+mod files;
 mod lists;
 mod random;
 
@@ -38,4 +39,5 @@ fn main() {
     number(lists::spread_sum());
     io::write_all(STDOUT_FILENO, b" ");
     line(lists::spread_found());
+    line(files::damaged_sum());
 }

@@ -24,22 +24,23 @@ abbrev pub namePart : List ℕ → ReadTrial → List ℕ
 namePart file (Content c) = take (c .size) (drop (c .name) file)
 namePart file (Unreadable why) = []
 
--- `read`: its reply, whose part of the file is the name, and each slice afterwards.
+-- `read`: its reply; that the part of the file that the reply points at is the name; and each slice afterwards.
 pub record ReadDone (file powers forces : List ℕ) (r : ReadTrial) (powers′ forces′ : List ℕ) : Type 0 where
   pub reply : readTrialReply r ≡ readReply (length file) (read (length powers) (length forces) file)
   pub name : namePart file r ≡ nameRead (read (length powers) (length forces) file)
   pub powersAfter : powers′ ≡ levelsAfter (λ t. t .powers) (read (length powers) (length forces) file) powers
   pub forcesAfter : forces′ ≡ levelsAfter (λ t. t .forces) (read (length powers) (length forces) file) forces
 
--- `open`: what `read` promises of its answer, and the part of the file itself.
+-- `open`: what `read` promises of its answer, and the bytes of the part that the answer points at. Equal bytes at another place would
+-- pass for it: `answer` alone says the place.
 pub record Opens (file powers forces : List ℕ) (r : Opened) (powers′ forces′ : List ℕ) : Type 0 where
   pub answer : ReadDone file powers forces (r .answer) powers′ forces′
   pub name : now (r .name) ≡ namePart file (r .answer)
 
--- The writer's arguments as a content.
 abbrev pub headFrom : ℕ → ℕ → ℕ → Head
 headFrom n f g = record { degree = n; f = f; g = g }
 
+-- The writer's arguments as a content.
 abbrev pub trialFrom : ℕ → ℕ → ℕ → List ℕ → List ℕ → List ℕ → Trial
 trialFrom n f g powers forces name = record { head = headFrom n f g; powers = powers; forces = forces; name = name }
 

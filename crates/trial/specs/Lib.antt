@@ -5,3 +5,4 @@ pub mod Trial
 pub mod Replies
 pub mod Answers
 pub mod Inner
+pub mod Claims

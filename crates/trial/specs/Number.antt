@@ -25,13 +25,14 @@ abbrev pub encodeNumbers : List ℕ → List ℕ
 encodeNumbers [] = []
 encodeNumbers (n ∷ ns) = encodeNumber n ++ encodeNumbers ns
 
--- A group below the number that the bytes behind it give. If that is 0, its one byte is a needless last byte: 10.
+-- The number that the bytes behind a group give, put above that group. If it is 0, its one byte is a needless last byte: 10.
 abbrev pub above : ℕ → Parsed ℕ → Parsed ℕ
 above low (parsed zero rest) = failed 10
 above low (parsed (suc high) rest) = parsed (low + 128 * suc high) rest
 above low (failed number) = failed number
 
--- A number of at most `limit` bytes. 9: the bytes end before the number does and before its last allowed byte; 10: it is longer.
+-- A number of at most `limit` bytes. 9: the bytes end before the number does and before its last allowed byte; 10: it is longer,
+-- or its last byte is needless.
 abbrev pub parseGroups : ℕ → Parser ℕ
 parseGroups zero bytes = failed 10
 parseGroups (suc limit) [] = failed 9

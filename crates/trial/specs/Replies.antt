@@ -13,7 +13,7 @@ use Rattle.trial.specs.Trial.{Trial, encode, headCauses, sizeCauses, any
 unfoldable pub read : ℕ → ℕ → Parser Trial
 read powersRoom forcesRoom = barring ((ltb powersRoom 64 || ltb forcesRoom 64) gives 4 ∷ []) parse
 
--- Degree, f, g, and where the name is: its start in the file, of which it is the end, and its length.
+-- Degree, f, g, and where the name is: its start, since it is the last of the file's bytes, and its length.
 abbrev pub readReply : ℕ → Parsed Trial → Reply
 readReply size (parsed t rest) =
     served (t .head .degree ∷ t .head .f ∷ t .head .g ∷ (size - length (t .name)) ∷ length (t .name) ∷ [])
@@ -33,7 +33,7 @@ abbrev pub levelsAfter : (Trial → List ℕ) → Parsed Trial → List ℕ → 
 levelsAfter list (parsed trial rest) slice = over (list trial) slice
 levelsAfter list (failed number) slice = slice
 
--- 4: a list of levels is not of the length that the degree asks; 14: the powers are out of order; 14: the forces are.
+-- 4: a list of levels is not of the length that the degree asks; 14 for the powers, then 14 for the forces: out of order.
 abbrev pub listCauses : ℕ → List ℕ → List ℕ → List Cause
 listCauses order powers forces =
     (not (eqb (length powers) order) || not (eqb (length forces) order)) gives 4
@@ -53,11 +53,11 @@ bodyCauses t = listCauses (2 ^ t .head .degree) (t .powers) (t .forces) ++ nameC
 unfoldable pub contentCauses : Trial → List Cause
 contentCauses t = headCauses (t .head) ++ bodyCauses t
 
--- 4: too little room for so many bytes.
+-- 4: a slice with this room is too short for a file of this size.
 abbrev pub roomCauses : ℕ → ℕ → List Cause
 roomCauses room size = ltb room size gives 4 ∷ []
 
--- The length of the encoding, into a slice with room for so many bytes.
+-- The writer's reply: the length of the file, unless the content is refused or the slice has too little room.
 unfoldable pub writeReply : Trial → ℕ → Reply
 writeReply t room = unless (contentCauses t ++ roomCauses room (length (encode t))) (served (length (encode t) ∷ []))
 

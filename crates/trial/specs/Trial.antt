@@ -71,7 +71,7 @@ abbrev pub anyUnprintable : List ℕ → Bool
 anyUnprintable [] = false
 anyUnprintable (byte ∷ bytes) = outside 32 126 byte || anyUnprintable bytes
 
--- What a name of that size at the front of the bytes is refused for. 9: some are missing; 16: one is outside 32 to 126.
+-- What a name of the given size at the front of the bytes is refused for. 9: some are missing; 16: one is outside 32 to 126.
 abbrev pub textCauses : ℕ → List ℕ → List Cause
 textCauses size bytes = ltb (length bytes) size gives 9 ∷ anyUnprintable (take size bytes) gives 16 ∷ []
 

@@ -139,7 +139,7 @@ pub fn name_part<'a>(file: &'a [u8], answer: ReadTrial) -> &'a [u8]
     }
 }
 
-// A file that was read: the answer, and the name as the part of the file that holds it.
+// What became of a file: the answer, and the name as the part of the file that holds it, empty where the file was refused.
 pub struct Trial<'a> {
     pub answer: ReadTrial,
     pub name: &'a [u8],

@@ -125,7 +125,7 @@ fn put_body(out: &mut [u8], at: usize, powers: &[u16], forces: &[u16], name: &[u
     put_name(out, at, name)
 }
 
-// The length of the file, or what the content is refused for.
+// The length of the file, or what the content or the slice lent for it is refused for.
 pub enum Written {
     Length(usize),
     Refused(Refusal),

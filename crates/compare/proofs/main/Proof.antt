@@ -67,6 +67,12 @@ spread-found-requires c κs = search needs
 line-requires-5 : tie.Need-line-requires-5 Inv-loop μ-loop
 line-requires-5 c κs = search needs
 
+damaged-sum-requires : tie.Need-damaged-sum-requires Inv-loop μ-loop
+damaged-sum-requires c κs = search needs
+
+line-requires-6 : tie.Need-line-requires-6 Inv-loop μ-loop
+line-requires-6 c κs = search needs
+
 returns : tie.Need-returns Inv-loop μ-loop
 returns c = search needs
 
@@ -95,4 +101,6 @@ main-spec =
     write-all-requires
     spread-found-requires
     line-requires-5
+    damaged-sum-requires
+    line-requires-6
     returns)

@@ -1,0 +1,176 @@
+// Checksums of what the reader makes of damaged trial files.
+use crate::random::mixed;
+
+// Document 01's file.
+const PLAIN: [u8; 19] = [
+    1,
+    2,
+    7,
+    5,
+    100,
+    110,
+    120,
+    130,
+    1,
+    200,
+    1,
+    220,
+    1,
+    240,
+    1,
+    132,
+    2,
+    1,
+    65,
+];
+
+// Degree 3, with levels of one to three bytes up to 65535.
+const WIDE: [u8; 44] = [
+    1,
+    3,
+    15,
+    11,
+    0,
+    1,
+    127,
+    128,
+    1,
+    255,
+    127,
+    128,
+    128,
+    1,
+    129,
+    128,
+    1,
+    255,
+    255,
+    3,
+    5,
+    9,
+    70,
+    172,
+    2,
+    173,
+    2,
+    132,
+    7,
+    160,
+    156,
+    1,
+    254,
+    255,
+    3,
+    8,
+    76,
+    105,
+    110,
+    101,
+    32,
+    51,
+    32,
+    126,
+];
+
+// Degree 2, without a name.
+const NAMELESS: [u8; 17] = [1, 2, 5, 7, 1, 2, 3, 4, 9, 192, 62, 193, 62, 224, 212, 3, 0];
+
+fn level(x: u16) -> u64 {
+    x as u64
+}
+
+fn levels(sum: u64, slice: &[u16]) -> u64 {
+    let mut total = sum;
+    let mut i: usize = 0;
+    while i < slice.len() {
+        total = mixed(total, level(slice[i]));
+        i += 1;
+    }
+    total
+}
+
+// The reader's answer and both slices afterwards.
+fn reading(sum: u64, file: &[u8]) -> u64 {
+    let mut powers = [7u16; 64];
+    let mut forces = [8u16; 64];
+    let answer = trial::read(file, &mut powers, &mut forces);
+    let s = levels(levels(sum, &powers), &forces);
+    match answer {
+        trial::ReadTrial::Content(content) => {
+            let s = mixed(
+                mixed(mixed(s, content.degree as u64), content.f as u64),
+                content.g as u64,
+            );
+            mixed(mixed(s, content.name as u64), content.size as u64)
+        }
+        trial::ReadTrial::Refused(refusal) => mixed(s, refusal.number() as u64),
+    }
+}
+
+// A byte of the file with one byte changed; 0 behind its end.
+fn changed_byte(file: &[u8], at: usize, value: u8, i: usize) -> u8 {
+    if i == at {
+        return value;
+    }
+    if i < file.len() { file[i] } else { 0 }
+}
+
+// A part from the front.
+fn front(sum: u64, file: &[u8], size: usize) -> u64 {
+    if size <= file.len() {
+        reading(sum, &file[..size])
+    } else {
+        sum
+    }
+}
+
+// The same for the array, whose length the type tells behind a loop.
+fn array_front(sum: u64, bytes: &[u8; 64], size: usize) -> u64 {
+    front(sum, bytes, size)
+}
+
+// The file with one byte changed.
+fn changed(sum: u64, file: &[u8], at: usize, value: u8) -> u64 {
+    let mut bytes = [0u8; 64];
+    for i in 0..64usize {
+        bytes[i] = changed_byte(file, at, value, i);
+    }
+    array_front(sum, &bytes, file.len())
+}
+
+// The file with every value at one place.
+fn values(sum: u64, file: &[u8], at: usize) -> u64 {
+    let mut total = sum;
+    for value in 0..256u32 {
+        total = changed(total, file, at, (value % 256) as u8);
+    }
+    total
+}
+
+// Every change of one byte.
+fn changes(sum: u64, file: &[u8]) -> u64 {
+    let mut total = sum;
+    let mut i: usize = 0;
+    while i < file.len() {
+        total = values(total, file, i);
+        i += 1;
+    }
+    total
+}
+
+// Every part from the front, the whole file last.
+fn truncations(sum: u64, file: &[u8]) -> u64 {
+    let mut total = sum;
+    let mut i: usize = 0;
+    while i < file.len() {
+        total = front(total, file, i);
+        i += 1;
+    }
+    reading(total, file)
+}
+
+pub fn damaged_sum() -> u64 {
+    let s = truncations(changes(0, &PLAIN), &PLAIN);
+    let s = truncations(changes(s, &WIDE), &WIDE);
+    truncations(changes(s, &NAMELESS), &NAMELESS)
+}

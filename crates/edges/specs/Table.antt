@@ -1,0 +1,139 @@
+-- Document 01's entries on the edges that are marked *, as a single table: what the definitions of the contracts reply, and what the
+-- paper says.
+use mathlib.Core.Path.{_≡_}
+use Prim.Native.Nat.{ℕ, suc}
+use mathlib.Core.List.{List, [], _∷_, _++_, map}
+use lib.ListN.{length, take, drop, replicate}
+use Rattle.reply.specs.Reply.{Reply, served, refused, spent}
+use Rattle.poly.specs.Replies.{orderReply, lengthReply}
+use Rattle.euclid.specs.Replies.{chainReply, chainContent}
+use Rattle.pairs.specs.Replies.{pairAtReply, positionReply}
+use Rattle.squares.specs.Replies.{siteReply}
+use Rattle.walk.specs.Walks.{startReply, lookReply, afterDraw}
+use Rattle.walk.specs.Calls.{begun}
+use Rattle.trial.specs.Trial.{Trial}
+use Rattle.trial.specs.Replies.{read, readReply, levelsAfter, writeReply, fileAfter}
+use Rattle.trial.specs.Answers.{trialFrom}
+
+pub record Case : Type 0 where
+  pub computed : Reply
+  pub stated : Reply
+
+infix 68 _is_
+abbrev pub _is_ : Reply → Reply → Case
+_is_ reply paper = record { computed = reply; stated = paper }
+
+-- Lengths.
+abbrev pub lengths : List Case
+lengths =
+    lengthReply 1 is served (0 ∷ [])
+    ∷ lengthReply 2 is served (2 ∷ [])
+    ∷ lengthReply 3 is served (10 ∷ [])
+    ∷ lengthReply 4 is served (42 ∷ [])
+    ∷ []
+
+-- Pairs.
+abbrev pub entry : ℕ → ℕ → ℕ → ℕ → Case
+entry n position f g = pairAtReply n position is served (f ∷ g ∷ [])
+
+abbrev pub degree3 : List Case
+degree3 =
+    entry 3 0 11 9
+    ∷ entry 3 1 9 11
+    ∷ entry 3 2 15 13
+    ∷ entry 3 3 13 15
+    ∷ entry 3 4 13 9
+    ∷ entry 3 5 9 13
+    ∷ entry 3 6 11 13
+    ∷ entry 3 7 13 11
+    ∷ entry 3 8 15 11
+    ∷ entry 3 9 11 15
+    ∷ []
+
+abbrev pub degree4 : List Case
+degree4 = entry 4 0 19 17 ∷ entry 4 41 19 25 ∷ pairAtReply 4 42 is refused 2 ∷ []
+
+-- Chains: the count and the divisor, and what stands in 32 lent numbers, all 0 before.
+abbrev pub zeros : ℕ → List ℕ
+zeros k = replicate k 0
+
+abbrev pub chains : List Case
+chains =
+    chainReply 3 15 11 32 is served (4 ∷ 1 ∷ [])
+    ∷ served (chainContent 3 15 11 (zeros 32)) is served (1 ∷ 2 ∷ 3 ∷ 3 ∷ zeros 28)
+    ∷ chainReply 3 15 9 32 is served (3 ∷ 3 ∷ [])
+    ∷ served (chainContent 3 15 9 (zeros 32)) is served (1 ∷ 3 ∷ 2 ∷ zeros 29)
+    ∷ chainReply 3 9 9 32 is served (1 ∷ 9 ∷ [])
+    ∷ served (chainContent 3 9 9 (zeros 32)) is served (1 ∷ zeros 31)
+    ∷ []
+
+-- The squares of the pair (7,5): the sites of a row from a column on, with the symbols of f and of g there.
+abbrev pub sites : ℕ → ℕ → List ℕ → List ℕ → List Case
+sites row col [] second = []
+sites row col (s ∷ first) [] = []
+sites row col (s ∷ first) (t ∷ second) = siteReply 2 7 5 row col is served (s ∷ t ∷ []) ∷ sites row (suc col) first second
+
+abbrev pub squares : List Case
+squares =
+    sites 0 0 (0 ∷ 1 ∷ 3 ∷ 2 ∷ []) (0 ∷ 1 ∷ 2 ∷ 3 ∷ [])
+    ++ sites 1 0 (3 ∷ 2 ∷ 0 ∷ 1 ∷ []) (1 ∷ 0 ∷ 3 ∷ 2 ∷ [])
+    ++ sites 2 0 (2 ∷ 3 ∷ 1 ∷ 0 ∷ []) (2 ∷ 3 ∷ 0 ∷ 1 ∷ [])
+    ++ sites 3 0 (1 ∷ 0 ∷ 2 ∷ 3 ∷ []) (3 ∷ 2 ∷ 1 ∷ 0 ∷ [])
+
+-- Degree 1: the first draw says spent, and leaves the record.
+abbrev pub walks : List Case
+walks =
+    startReply 1 is served (1 ∷ 0 ∷ [])
+    ∷ lookReply (begun 1) is spent
+    ∷ served (afterDraw (begun 1) .degree ∷ afterDraw (begun 1) .position ∷ []) is served (1 ∷ 0 ∷ [])
+    ∷ []
+
+-- Degrees 0 and 32, at each call that takes a degree.
+abbrev pub outsideAt : ℕ → List Case
+outsideAt n =
+    orderReply n is refused 1
+    ∷ lengthReply n is refused 1
+    ∷ pairAtReply n 0 is refused 1
+    ∷ positionReply n 7 5 is refused 1
+    ∷ chainReply n 7 5 32 is refused 1
+    ∷ siteReply n 7 5 0 0 is refused 1
+    ∷ startReply n is refused 1
+    ∷ []
+
+-- The trial file.
+abbrev pub file : List ℕ
+file =
+    0x01 ∷ 0x02 ∷ 0x07 ∷ 0x05 ∷ 0x64 ∷ 0x6E ∷ 0x78 ∷ 0x82 ∷ 0x01 ∷ 0xC8 ∷ 0x01 ∷ 0xDC ∷ 0x01 ∷ 0xF0 ∷ 0x01 ∷ 0x84 ∷ 0x02 ∷ 0x01 ∷ 0x41 ∷ []
+
+abbrev pub powers : List ℕ
+powers = 100 ∷ 110 ∷ 120 ∷ 130 ∷ []
+
+abbrev pub forces : List ℕ
+forces = 200 ∷ 220 ∷ 240 ∷ 260 ∷ []
+
+-- Its content: degree 2, the pair (7,5), and the name A.
+abbrev pub trial : Trial
+trial = trialFrom 2 7 5 powers forces (0x41 ∷ [])
+
+abbrev pub reading : List ℕ → Reply
+reading bytes = readReply (length bytes) (read 64 64 bytes)
+
+abbrev pub files : List Case
+files =
+    -- degree, f, g, and that the name is the one byte at 18
+    reading file is served (2 ∷ 7 ∷ 5 ∷ 18 ∷ 1 ∷ [])
+    ∷ served (take 1 (drop 18 file)) is served (0x41 ∷ [])
+    ∷ served (levelsAfter (λ t. t .powers) (read 64 64 file) (zeros 64)) is served (powers ++ zeros 60)
+    ∷ served (levelsAfter (λ t. t .forces) (read 64 64 file) (zeros 64)) is served (forces ++ zeros 60)
+    ∷ reading (file ++ (0 ∷ [])) is refused 17
+    ∷ reading (take 18 file) is refused 9
+    ∷ writeReply trial 19 is served (19 ∷ [])
+    ∷ served (fileAfter trial (zeros 19)) is served file
+    ∷ []
+
+abbrev pub table : List Case
+table = lengths ++ degree3 ++ degree4 ++ chains ++ squares ++ walks ++ outsideAt 0 ++ outsideAt 32 ++ files
+
+-- All of it as one equation between lists of replies.
+abbrev pub EdgesClaim : Type 0
+EdgesClaim = map (λ case. case .computed) table ≡ map (λ case. case .stated) table

@@ -1,0 +1,6 @@
+pub mod Numerals
+pub mod Inputs
+pub mod Putting
+pub mod Decimals
+pub mod Lines
+pub mod Examples

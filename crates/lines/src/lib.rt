@@ -1,0 +1,11 @@
+// The list program: what its input asks for, the lines that it prints, and the printing itself.
+mod entry;
+mod input;
+mod print;
+mod text;
+
+pub use entry::entry_line;
+pub use entry::first_line;
+pub use input::Asked;
+pub use input::degree_in;
+pub use print::answer;

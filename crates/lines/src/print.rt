@@ -1,0 +1,71 @@
+// Prints what the list program answers. Lines are collected in a buffer, since a call of the system for each would take most of the time.
+use crate::entry::entry_line;
+use crate::entry::first_line;
+use crate::input::Asked;
+use crate::input::degree_in;
+use crate::text::append;
+use crate::text::refusal_line;
+use poly::Count;
+use poly::Degree;
+
+// Answers the whole input of the program.
+pub fn answer(fd: i32, input: &[u8]) {
+    match degree_in(input) {
+        Asked::Refused(refusal) => refuse(fd, refusal.number()),
+        Asked::Degree(n) => print_list(fd, n),
+    }
+}
+
+fn refuse(fd: i32, number: u32) {
+    let mut line = [0u8; 64];
+    let size = refusal_line(number, &mut line);
+    io::write_all(fd, &line[..size]);
+}
+
+fn print_list(fd: i32, n: u32) {
+    let mut line = [0u8; 64];
+    let size = first_line(n, &mut line);
+    io::write_all(fd, &line[..size]);
+    if let Count::Is(count) = (Degree { n }).list_length() {
+        print_entries(fd, n, count);
+    }
+}
+
+fn print_entries(fd: i32, n: u32, count: u64) {
+    let mut buffer = io::large_buffer();
+    let mut used: usize = 0;
+    let mut position: u64 = 0;
+    while position < count {
+        used = add_entry(fd, n, position, &mut buffer, used);
+        position += 1;
+    }
+    flush_all(fd, &buffer, used);
+}
+
+// The line of a position, behind the `used` bytes of the buffer. It gives how many are used then.
+fn add_entry(fd: i32, n: u32, position: u64, buffer: &mut [u8; 65536], used: usize) -> usize {
+    let mut line = [0u8; 64];
+    let size = entry_line(n, position, &mut line);
+    add(fd, buffer, used, &line[..size])
+}
+
+// A line that does not fit is put at the front, once the buffer is written.
+fn add(fd: i32, buffer: &mut [u8], used: usize, line: &[u8]) -> usize {
+    let next = append(buffer, used, line);
+    if next != used {
+        return next;
+    }
+    flush(fd, buffer, used);
+    append(buffer, 0, line)
+}
+
+// The same for the array, whose length the type tells behind a loop.
+fn flush_all(fd: i32, buffer: &[u8; 65536], used: usize) {
+    flush(fd, buffer, used);
+}
+
+fn flush(fd: i32, buffer: &[u8], used: usize) {
+    if used <= buffer.len() {
+        io::write_all(fd, &buffer[..used]);
+    }
+}

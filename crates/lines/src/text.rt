@@ -1,0 +1,71 @@
+// The lines that the list program prints, and a buffer that collects them.
+ghost use mathlib.Core.Path.{_≡_};
+ghost use mathlib.Core.List.{[], _∷_, _++_};
+ghost use Prim.Native.Nat.{_+_, _≤_};
+ghost use lib.ListN.{length};
+ghost use Rattle.lines.specs.Text.{decimal, line, Puts, Lined, refusedText, usedAfter, bufferAfter};
+
+// The first line, degree and the length of the list, at the front of `out`. It gives the line's length.
+pub fn heading(degree: u32, count: u64, out: &mut [u8; 64]) -> usize
+    ensures { λ r. ⌜ Lined (now (out .entry)) (line (degree ∷ count ∷ [])) r (now (out .exit)) ⌝ }
+{
+    let at = field(degree as u64, b' ', out, 0);
+    field(count, b'\n', out, at)
+}
+
+// A line of position, f and g, likewise.
+pub fn pair_line(position: u64, f: u32, g: u32, out: &mut [u8; 64]) -> usize
+    ensures { λ r. ⌜ Lined (now (out .entry)) (line (position ∷ f ∷ g ∷ [])) r (now (out .exit)) ⌝ }
+{
+    let at = field(position, b' ', out, 0);
+    let at = field(f as u64, b' ', out, at);
+    field(g as u64, b'\n', out, at)
+}
+
+// The line of a refusal, likewise.
+pub fn refusal_line(number: u32, out: &mut [u8; 64]) -> usize
+    ensures { λ r. ⌜ Lined (now (out .entry)) (refusedText ++ line (number ∷ [])) r (now (out .exit)) ⌝ }
+{
+    let at = copy(b"refused ", out, 0);
+    field(number as u64, b'\n', out, at)
+}
+
+// A number and the byte that ends it, at a position of `out`. A number has at most 20 digits.
+fn field(n: u64, end: u8, out: &mut [u8], at: usize) -> usize
+    requires { ⌜ at + 21 ≤ length (now out) ⌝ }
+    ensures { λ r. ⌜ Puts (now (out .entry)) at (decimal n ++ (end ∷ [])) r (now (out .exit)) ⌝ }
+    ensures { λ r. ⌜ r ≤ at + 21 ⌝ }
+{
+    let mut text = [0u8; 20];
+    let size = io::decimal(n, &mut text);
+    let next = copy(&text[..size], out, at);
+    out[next] = end;
+    next + 1
+}
+
+// Puts bytes behind the first `used` of a buffer, and gives how many are used then. Without room for them it does nothing.
+pub fn append(out: &mut [u8], used: usize, bytes: &[u8]) -> usize
+    ensures count { λ r. ⌜ r ≡ usedAfter (now (out .entry)) used (now (bytes .entry)) ⌝ }
+    ensures content { λ _. ⌜ now (out .exit) ≡ bufferAfter (now (out .entry)) used (now (bytes .entry)) ⌝ }
+{
+    if out.len() < used {
+        return used;
+    }
+    if out.len() - used < bytes.len() {
+        return used;
+    }
+    copy(bytes, out, used)
+}
+
+// Puts bytes at a position of `out`, and gives the position behind them.
+fn copy(bytes: &[u8], out: &mut [u8], at: usize) -> usize
+    requires { ⌜ at + length (now bytes) ≤ length (now out) ⌝ }
+    ensures { λ r. ⌜ Puts (now (out .entry)) at (now (bytes .entry)) r (now (out .exit)) ⌝ }
+{
+    let mut i: usize = 0;
+    while i < bytes.len() {
+        out[at + i] = bytes[i];
+        i += 1;
+    }
+    at + i
+}
