@@ -1,5 +1,5 @@
 #!/usr/bin/env python3
-"""What the crate edges must print: document 01's entries on the edges as the paper gives them, with nothing computed."""
+"""What the crate edges must print: document 01's entries on the edges as the paper gives them; no pair, chain or symbol is computed."""
 
 LENGTHS = {1: 0, 2: 2, 3: 10, 4: 42}
 DEGREE_3 = [(11, 9), (9, 11), (15, 13), (13, 15), (13, 9), (9, 13), (11, 13), (13, 11), (15, 11), (11, 15)]

@@ -1,6 +1,7 @@
 #!/usr/bin/env python3
-"""The values that the crate compare must print, computed another way: polynomials are sets of exponents, lists of pairs are filtered by
-plain Euclid and sorted by the key that document 01's order gives, and sites are worked cell by cell. Run it to make crates/compare/stdout."""
+"""The values that the crate compare must print, computed another way: polynomials are sets of exponents in the arithmetic, lists of pairs
+are filtered by plain Euclid and sorted by the key that document 01's order gives, sites are worked cell by cell, and trial files are read
+by a reader written from document 01. Run it to make crates/compare/stdout."""
 
 from math import comb
 
@@ -218,6 +219,14 @@ def damaged():
     return total
 
 
+def entries():
+    """Document 01's entries on files without the mark, and a number above 4294967295."""
+    total = 0
+    for size in (40, 41):
+        total = reading(total, FILES[0][:17] + bytes([size]) + b"A" * size)
+    return reading(reading(total, bytes.fromhex("82 00")), bytes.fromhex("FF FF FF FF 1F"))
+
+
 def lists(most):
     """Degree, length and checksum of each list; up to degree 8, how many positions are found back: all of them."""
     for n in range(2, most + 1):
@@ -229,7 +238,7 @@ def lists(most):
 
 
 def kept_words(k):
-    """The kept words of k letters, by running the automaton on prefixes; words that cannot end well are as many as any others."""
+    """The automaton's steps, and for each state and m up to k how many words of m letters lead from it to (1,0)."""
     step = {("10", 0): "01", ("10", 1): "11", ("11", 0): "11", ("11", 1): "01", ("01", 0): "10", ("01", 1): "10"}
     count = {(state, 0): int(state == "10") for state in ("10", "11", "01")}
     for m in range(1, k + 1):
@@ -270,11 +279,11 @@ def pair_at(n, position):
 
 
 def spread():
-    """A hundred positions spread over the list of degree 31."""
+    """A hundred positions spread over the list of degree 31, the last one, and the refusal behind it."""
     total, length = 0, 2 * (4**30 - 1) // 3
     for i in range(100):
         total = mixed(total, *pair_at(31, length // 100 * i + i))
-    return mixed(total, *pair_at(31, length - 1))
+    return mixed(total, *pair_at(31, length - 1), 2)
 
 
 if __name__ == "__main__":
@@ -285,3 +294,4 @@ if __name__ == "__main__":
     lists(12)
     print(spread(), 101)
     print(damaged())
+    print(entries())

@@ -174,3 +174,26 @@ pub fn damaged_sum() -> u64 {
     let s = truncations(changes(s, &WIDE), &WIDE);
     truncations(changes(s, &NAMELESS), &NAMELESS)
 }
+
+// Document 01's file with a name of `size` letters, as far as 64 bytes go.
+fn named_byte(size: u8, i: usize) -> u8 {
+    if i < 17 {
+        return PLAIN[i];
+    }
+    if i == 17 { size } else { b'A' }
+}
+
+fn named(sum: u64, size: u8) -> u64 {
+    let mut bytes = [0u8; 64];
+    for i in 0..64usize {
+        bytes[i] = named_byte(size, i);
+    }
+    array_front(sum, &bytes, 18 + size as usize)
+}
+
+// Document 01's entries on files without the mark: names of 40 and 41 bytes, 82 00 for a version. Then a number above the greatest.
+pub fn entries_sum() -> u64 {
+    let s = named(named(0, 40), 41);
+    let s = reading(s, b"\x82\x00");
+    reading(s, b"\xff\xff\xff\xff\x1f")
+}

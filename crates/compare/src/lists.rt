@@ -47,12 +47,14 @@ fn spread(i: u64) -> u64 {
     768614336404564650 / 100 * (i % 100) + i % 100
 }
 
+// Their pairs, the last pair, and the position behind it.
 pub fn spread_sum() -> u64 {
     let mut sum: u64 = 0;
     for i in 0..100u64 {
         sum = pair(sum, 31, spread(i));
     }
-    pair(sum, 31, 768614336404564649)
+    let s = pair(sum, 31, 768614336404564649);
+    pair(s, 31, 768614336404564650)
 }
 
 pub fn spread_found() -> u64 {

@@ -40,4 +40,5 @@ fn main() {
     io::write_all(STDOUT_FILENO, b" ");
     line(lists::spread_found());
     line(files::damaged_sum());
+    line(files::entries_sum());
 }

@@ -88,7 +88,7 @@ walks =
     ∷ served (afterDraw (begun 1) .degree ∷ afterDraw (begun 1) .position ∷ []) is served (1 ∷ 0 ∷ [])
     ∷ []
 
--- Degrees 0 and 32, at each call that takes a degree.
+-- Degrees 0 and 32, at each call that answers them with 1.
 abbrev pub outsideAt : ℕ → List Case
 outsideAt n =
     orderReply n is refused 1

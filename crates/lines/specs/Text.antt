@@ -50,10 +50,11 @@ pub record Lined (out bytes : List ℕ) (r : ℕ) (out′ : List ℕ) : Type 0 w
   pub content : out′ ≡ put out 0 bytes
   pub within : Counts r out′
 
--- The line of a reply: a first number and the values, or the refusal.
+-- "refused " in ASCII.
 abbrev pub refusedText : List ℕ
 refusedText = 114 ∷ 101 ∷ 102 ∷ 117 ∷ 115 ∷ 101 ∷ 100 ∷ 32 ∷ []
 
+-- The line of a reply: a first number and the values, or the refusal.
 abbrev pub replyLine : ℕ → Reply → List ℕ
 replyLine first (served values) = line (first ∷ values)
 replyLine first (refused number) = refusedText ++ line (number ∷ [])

@@ -18,7 +18,7 @@ pub fn first_line(n: u32, out: &mut [u8; 64]) -> usize
     }
 }
 
-// Position, f and g, likewise.
+// Position, f and g, at the front of `out`. It gives the line's length.
 pub fn entry_line(n: u32, position: u64, out: &mut [u8; 64]) -> usize
     ensures { λ r. ⌜ Lined (now (out .entry)) (entryLine n position) r (now (out .exit)) ⌝ }
 {

@@ -1,5 +1,5 @@
 // Prints what the list program prints for inputs on the edges, to be held against tests/list_reference.py. The list of degree 10 is long:
-// of it the first and the last line are printed, and a checksum of all of them.
+// of its lines, made here one by one, the first and the last are printed, and a checksum of all of them.
 use libc::STDOUT_FILENO;
 ghost use Prim.Native.Nat.{_<_};
 
@@ -31,7 +31,7 @@ fn wide(byte: u8) -> u64
     byte as u64
 }
 
-// The bytes in a running checksum.
+// A running checksum with these bytes added.
 fn mixed(sum: u64, bytes: &[u8]) -> u64 {
     let mut total = sum;
     let mut i: usize = 0;
@@ -42,7 +42,7 @@ fn mixed(sum: u64, bytes: &[u8]) -> u64 {
     total
 }
 
-// The line of a position in a running checksum.
+// A running checksum with the line of a position added.
 fn line(n: u32, position: u64, sum: u64) -> u64 {
     let mut text = [0u8; 64];
     let size = lines::entry_line(n, position, &mut text);
@@ -96,6 +96,7 @@ fn main() {
     case(b"03\n");
     case(b"003\n");
     case(b"3\n\n");
+    case(b"10\nx");
     case(b"1\n");
     case(b"3\n");
 }

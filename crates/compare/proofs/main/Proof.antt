@@ -73,6 +73,12 @@ damaged-sum-requires c κs = search needs
 line-requires-6 : tie.Need-line-requires-6 Inv-loop μ-loop
 line-requires-6 c κs = search needs
 
+entries-sum-requires : tie.Need-entries-sum-requires Inv-loop μ-loop
+entries-sum-requires c κs = search needs
+
+line-requires-7 : tie.Need-line-requires-7 Inv-loop μ-loop
+line-requires-7 c κs = search needs
+
 returns : tie.Need-returns Inv-loop μ-loop
 returns c = search needs
 
@@ -103,4 +109,6 @@ main-spec =
     line-requires-5
     damaged-sum-requires
     line-requires-6
+    entries-sum-requires
+    line-requires-7
     returns)

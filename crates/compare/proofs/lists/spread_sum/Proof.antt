@@ -31,6 +31,9 @@ loop-again c = search needs
 pair-requires-2 : tie.Need-pair-requires-2 Inv-loop μ-loop
 pair-requires-2 c κs = search needs
 
+pair-requires-3 : tie.Need-pair-requires-3 Inv-loop μ-loop
+pair-requires-3 c κs = search needs
+
 returns : tie.Need-returns Inv-loop μ-loop
 returns c = search needs
 
@@ -47,4 +50,5 @@ spread-sum-spec =
     loop-less
     loop-again
     pair-requires-2
+    pair-requires-3
     returns)
