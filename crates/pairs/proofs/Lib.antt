@@ -4,6 +4,7 @@ pub mod Loops
 pub mod Words
 pub mod Letters
 pub mod Reading
+pub mod Shares
 pub mod Binomial
 pub mod Compositions
 pub mod Quotients

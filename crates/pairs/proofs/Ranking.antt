@@ -60,6 +60,10 @@ pub length-digits : (m x : ℕ) → length (digits m x) ≡ m
 length-digits zero x = refl
 length-digits (suc m) x = ap suc (length-digits m x)
 
+-- Where a word leads there, there is one.
+pub word-below : (s : State) (m x : ℕ) → leads s (digits m x) ≡ true → wordRank s (digits m x) < length (wordsFrom s m)
+word-below s m x k = rw length-words (rw (length-digits m x) at (wordRank-lt s (digits m x) k))
+
 -- A reader at a number's first letter.
 module _ (s : State) (m x : ℕ) where
   module _ (letter : x / 2 ^ m % 2 ≡ 0) where

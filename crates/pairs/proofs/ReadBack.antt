@@ -1,16 +1,16 @@
 -- A sequence read one quotient after the other, for code that takes it from an array: its intermediate bits and its word as numbers, and
 -- its composition's rank by the gaps.
 use Prim.Native.Nat.{ℕ, zero, suc, _+_, _-_, _*_, _/_, _%_, _^_, _≤_, _<_}
-use native.Mathlib.Nat.{mod-eq-of-lt, mul-one, one-mul, zero-add, mul-le-mul-left, le-refl}
+use native.Mathlib.Nat.{mod-eq-of-lt, mul-one, zero-add, mul-le-mul-left, le-refl}
 use native.Mathlib.Numerals.{sub-one}
 use native.Mathlib.Omega.{arith}
 use mathlib.Core.Path.{_≡_, refl, sym, ap, _∙_}
 use mathlib.Core.Bool.{Bool}
 use mathlib.Core.List.{List, [], _∷_, map}
 use lib.ListN.{length, length-map}
-use lib.Dec.{lit<}
-use lib.Pow.{pow-pos, pow-mono, shl-exact}
+use lib.Pow.{pow-pos, pow-mono}
 use Rattle.poly.specs.Code.{degree}
+use Rattle.poly.proofs.Shifts.{one-shl}
 use Rattle.pairs.specs.Counts.{sum}
 use Rattle.pairs.specs.Sequences.{bits, bit}
 use Rattle.pairs.specs.Ranking.{digits, Parts}
@@ -75,7 +75,7 @@ module _ {n : ℕ} {all : List ℕ} (valid : Valid n all) where
     degree-small = omega (arith, r .total)
 
     power : 1 * 2 ^ degree 2 q % 2 ^ 32 ≡ 2 ^ degree 2 q
-    power = shl-exact {a = 1} 1 (degree 2 q) 32 (lit< tt) (omega (arith, degree-small)) ∙ one-mul (2 ^ degree 2 q)
+    power = one-shl 32 (degree 2 q) degree-small
 
     bits-lt : x * 2 ^ (degree 2 q - 1) + (q - 2 ^ degree 2 q) / 2 < 2 ^ 31
     bits-lt =

@@ -1,7 +1,6 @@
 -- The word at an index, read letter by letter as a number: the words that begin with 0 come first, so the index tells the first letter,
 -- and the rest is a word from the next state.
-use Prim.Native.Nat.{ℕ, zero, suc, _+_, _-_, _*_, _^_, _≤_, _<_}
-use native.Mathlib.Numerals.{sub-one}
+use Prim.Native.Nat.{ℕ, zero, suc, _+_, _-_, _^_, _≤_, _<_}
 use native.Mathlib.Omega.{arith}
 use mathlib.Core.Path.{_≡_, sym, ap, _∙_}
 use mathlib.Core.Bool.{true, false}
@@ -9,7 +8,7 @@ use mathlib.Core.List.{[]}
 use lib.ListN.{length, getD}
 use borrow.Author.Tests.{lt-ltb, le-ltb}
 use Rattle.pairs.specs.Words.{State, s10, s11, s01, step, wordsFrom, number}
-use Rattle.pairs.proofs.Words.{count, count-suc, count-s11, count-s01, wordAt, wordAt-known, listed-wordsFrom}
+use Rattle.pairs.proofs.Words.{count, count-suc, wordAt, wordAt-known, listed-wordsFrom}
 use Rattle.pairs.proofs.Letters.{number-lt, wordNumber, wordNumber-is}
 
 -- The number of the word at index i of those of m letters from a state.
@@ -63,15 +62,6 @@ module _ (s : State) (m i z : ℕ) (pos : 0 < m) (fits : i < length (wordsFrom s
       ap (λ v. 2 ^ (m - 1) + v) (numberAt-is (step s true) (m - 1) (i - z) (rest-fits h))
       ∙ ap (λ v. 2 ^ (m - 1) + wordNumber (step s true) (m - 1) (i - v)) (sym zeros)
       ∙ sym (after-1 s (m - 1) i (omega (arith, zeros))) ∙ ap (λ v. wordNumber s v i) up ∙ sym (numberAt-is s m i fits)
-
--- The words from one state in number of those from another.
-pub from11-zeros : (m : ℕ) → 1 ≤ m → length (wordsFrom s10 m) ≡ length (wordsFrom s11 m)
-from11-zeros zero h = absurd (omega arith)
-from11-zeros (suc m) h = rw (long, long) (sym (count-s11 m))
-
-pub from10-zeros : (m : ℕ) → 1 ≤ m → 2 * length (wordsFrom s10 (m - 1)) ≡ length (wordsFrom s01 m)
-from10-zeros zero h = absurd (omega arith)
-from10-zeros (suc m) h = rw (long, long, sub-one) (sym (count-s01 m))
 
 -- No word of 1 letter leads from (1,0), of none or 1 from (1,1), of none from (0,1).
 pub from10-two : (m i : ℕ) → 1 ≤ m → i < length (wordsFrom s10 m) → 2 ≤ m

@@ -64,14 +64,12 @@ pub listed-words : (k : ℕ) → Listed (words k) (count s10 k) (wordAt s10 k) [
 unfolding wordsFrom
 listed-words k = listed-wordsFrom s10 k
 
--- The other counts in terms of those from (1,0).
+-- From (1,1) there are as many as from (1,0).
 pub count-s11 : (m : ℕ) → count s11 (suc m) ≡ count s10 (suc m)
 count-s11 m = omega arith
 
-pub count-s01 : (m : ℕ) → count s01 (suc m) ≡ 2 * count s10 m
-count-s01 m = omega arith
-
-neighbours : (m : ℕ) → count s10 m + count s10 (suc m) ≡ 2 ^ m
+-- Words of m letters and of one letter more number 2^m together.
+pub neighbours : (m : ℕ) → count s10 m + count s10 (suc m) ≡ 2 ^ m
 neighbours zero = refl
 neighbours (suc m) = omega (arith, neighbours m, pow-suc 2 m)
 

@@ -10,6 +10,7 @@ ghost use mathlib.Core.Path.{_≡_};
 ghost use Prim.Native.Nat.{_≤_, _<_};
 ghost use lib.ListN.{length, getD};
 ghost use Rattle.pairs.specs.Sequences.{block, compositions};
+ghost use Rattle.pairs.specs.Words.{words as wordsOf};
 ghost use Rattle.pairs.specs.Pairs.{start, build, pairs};
 ghost use Rattle.pairs.specs.Replies.{foundReply, pairReply, pairAtReply};
 
@@ -30,7 +31,7 @@ pub fn pair_at(n: u32, position: u64) -> Found
 }
 
 // The same for a position of the list. The number k of quotients is found by subtracting the sizes of the blocks before it; `count` is the
-// number of compositions of n into k parts, each from the one before.
+// number of compositions of n into k parts and `words` that of the words of k letters, each made from the one before.
 fn seek(n: u32, position: u64) -> Found
     requires { ⌜ n ≤ 31 ⌝ }
     requires { ⌜ position < length (pairs n) ⌝ }
@@ -38,26 +39,29 @@ fn seek(n: u32, position: u64) -> Found
 {
     let mut k = 2;
     let mut count = n - 1;
+    let mut words = 2;
     let mut place = position;
-    let mut size = block_size(n, k, count);
+    let mut size = block_size(n, k, count, words);
     while size <= place {
         place -= size;
         count = count * (n - k) / k;
+        words = (1u64 << k) - words;
         k += 1;
-        size = block_size(n, k, count);
+        size = block_size(n, k, count, words);
     }
     pair_in(n, k, count, place)
 }
 
 // How many sequences of k quotients there are: one for each composition, word and number of n - k intermediate bits.
-fn block_size(n: u32, k: u32, count: u32) -> u64
+fn block_size(n: u32, k: u32, count: u32, words: u64) -> u64
     requires { ⌜ 2 ≤ k ⌝ }
     requires { ⌜ k ≤ n ⌝ }
     requires { ⌜ n ≤ 31 ⌝ }
     requires { ⌜ count ≡ length (compositions n k) ⌝ }
+    requires { ⌜ words ≡ length (wordsOf k) ⌝ }
     ensures { λ r. ⌜ r ≡ length (block n k) ⌝ }
 {
-    (count as u64 * word_count(k as usize)) << (n - k)
+    (count as u64 * words) << (n - k)
 }
 
 // The pair at a place among those of k quotients. One pass over the n - 1 gaps between n ones: a plus in a gap gives the present quotient
@@ -72,7 +76,7 @@ fn pair_in(n: u32, k: u32, count: u32, place: u64) -> Found
     ensures { λ r. ⌜ foundReply r ≡ pairReply (build (getD (block n k) place [])) ⌝ }
 {
     let words = word_count(k as usize);
-    let word = from10(k, place % words);
+    let word = from10(k, place % words, words);
     let bits = place / words;
     let mut index = (bits >> (n - k)) as u32;
     let mut left = count;

@@ -41,9 +41,10 @@ fn sequence_position(n: u32, chain: &[u32], k: usize) -> u64
     let before = blocks_before(n, k);
     let composition = composition_rank(n, chain, k, before.compositions);
     let parts = bits_and_word(chain, k);
-    let word = rank10(k, parts.word);
+    let words = word_count(k);
+    let word = rank10(k, parts.word, words);
     let place = (composition << (n - k as u32)) + parts.bits as u64;
-    before.size + place * word_count(k) + word
+    before.size + place * words + word
 }
 
 struct Before {
@@ -51,8 +52,8 @@ struct Before {
     compositions: u64,
 }
 
-// How many sequences have fewer than k quotients, and how many compositions have k parts. Each of the binomial coefficients is made from
-// the one before it.
+// How many sequences have fewer than k quotients, and how many compositions have k parts. Each number of compositions, and of words of j
+// letters, is made from the one before it.
 fn blocks_before(n: u32, k: usize) -> Before
     requires { ⌜ (2 ≤ k) × (k ≤ n) × (n < 32) ⌝ }
     ensures { λ r. ⌜ (r .size ≡ length (each (numbers 2 (k - 2)) (block n))) × (r .compositions ≡ length (compositions n k)) ⌝ }
@@ -60,9 +61,11 @@ fn blocks_before(n: u32, k: usize) -> Before
     let mut j: u32 = 2;
     let mut size: u64 = 0;
     let mut compositions = (n - 1) as u64;
+    let mut words = 2;
     while (j as usize) < k {
-        size += compositions * (word_count(j as usize) << (n - j));
+        size += compositions * (words << (n - j));
         compositions = compositions * (n - j) as u64 / j as u64;
+        words = (1u64 << j) - words;
         j += 1;
     }
     Before { size, compositions }

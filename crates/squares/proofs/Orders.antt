@@ -8,7 +8,7 @@ use Rattle.poly.proofs.Shifts.{one-shl}
 use Rattle.squares.proofs.Sheets.{four-pow}
 
 pub shifted : (n : ℕ) → n < 7 → 1 * 2 ^ n % 2 ^ 64 ≡ 2 ^ n
-shifted n h = one-shl n (omega arith)
+shifted n h = one-shl 64 n (omega arith)
 
 pub order-le : (n : ℕ) → n < 7 → 2 ^ n ≤ 64
 order-le n h = pow-mono {i = n} {j = 6} (omega arith)

@@ -65,7 +65,7 @@ small c = let l = within 1 31 (inside c) in omega arith
 
 order : (c : tie.After-enum-told)
     → 1 * 2 ^ c .before .before .before .before .before .args .n % 2 ^ 64 ≡ 2 ^ c .before .before .before .before .before .args .n
-order c = let l = small c in one-shl (c .before .before .before .before .before .args .n) (omega arith)
+order c = let l = small c in one-shl 64 (c .before .before .before .before .before .args .n) (omega arith)
 
 reply : (c : tie.After-enum-told)
     → let a = c .before .before .before .before .before .args in

@@ -20,28 +20,22 @@ unfolding blockSize
 size-is n k c w ec ew =
     rw (ec, ew, listed-compositions n k .long, listed-words k .long, listed-block n k .long, mul-assoc, mul-comm (count s10 k))
 
--- with the word count at hand
-here : (c : tie.After-word-count)
-    → (c .before .args .count * c .word-count .result * 2 ^ (c .before .args .n - c .before .args .k)
-    ≡ length (block (c .before .args .n) (c .before .args .k)))
-    × (length (block (c .before .args .n) (c .before .args .k)) < 2 ^ 61)
+-- for the arguments
+here : (c : tie.Start)
+    → (c .args .count * c .args .words * 2 ^ (c .args .n - c .args .k) ≡ length (block (c .args .n) (c .args .k)))
+    × (length (block (c .args .n) (c .args .k)) < 2 ^ 61)
 here c =
-    let a = c .before .args in
-    let (two, (le, (few, compositions))) = c .before .pre in (
-      size-is (a .n) (a .k) (a .count) (c .word-count .result) compositions (c .word-count .ensures),
+    let a = c .args in
+    let (two, (le, (few, (compositions, kept)))) = c .pre in (
+      size-is (a .n) (a .k) (a .count) (a .words) compositions kept,
       rw (listed-block (a .n) (a .k) .long) (blockSize-lt (a .n) (a .k) two le few),
     )
 
-word-count-requires : tie.Need-word-count-requires
-word-count-requires c κs = search needs
-
 mul-result : tie.Need-mul-result
 mul-result c =
-    let a = c .before .args in
+    let a = c .args in
     let (is, small) = here c in
-    record {
-      fits = omega (arith, le-mul-of-pos-right (a .count * c .word-count .result) (pow-pos (a .n - a .k)));
-    }
+    record { fits = omega (arith, le-mul-of-pos-right (a .count * a .words) (pow-pos (a .n - a .k))) }
 
 sub-result : tie.Need-sub-result
 sub-result c = search needs
@@ -56,5 +50,4 @@ returns : tie.Need-returns
 returns c = let (is, small) = here c in rw is (mod-eq-of-lt (omega arith))
 
 pub block-size-spec : {M : Type 1} → statement M
-block-size-spec =
-    tie.close (tie.spec word-count-requires mul-result sub-result cast-result shl-result returns)
+block-size-spec = tie.close (tie.spec mul-result sub-result cast-result shl-result returns)

@@ -53,7 +53,7 @@ rem-from10 : tie.Need-rem-from10 Inv-loop μ-loop
 rem-from10 c = positive c
 
 from10-requires : tie.Need-from10-requires Inv-loop μ-loop
-from10-requires c κs = (omega arith, rw (c .word-count .ensures) (mod-lt _ (rw (c .word-count .ensures) at (positive c))))
+from10-requires c κs = (omega arith, (c .word-count .ensures, mod-lt _ (positive c)))
 
 div-bits : tie.Need-div-bits Inv-loop μ-loop
 div-bits c = positive (c .before)

@@ -1,18 +1,22 @@
 -- `seek` meets its contract. The invariant: what stands at the place, counted from block k on, is what stands at the position.
 use mathlib.Core.List.{List, []}
 use mathlib.Core.Path.{_≡_, refl, sym, ap, _∙_}
-use Prim.Native.Nat.{ℕ, zero, suc, _+_, _-_, _*_, _/_, _^_, _≤_, _<_}
+use Prim.Native.Nat.{ℕ, zero, suc, _+_, _-_, _*_, _/_, _%_, _^_, _≤_, _<_}
 use native.Mathlib.Nat.{suc-sub-suc}
 use native.Mathlib.Numerals.{add-one}
 use native.Mathlib.Omega.{arith}
+use borrow.Author.Needs.{needs}
 use borrow.Author.Tests.{lt-ltb, le-ltb}
 use lib.ListN.{length, getD}
 use Rattle.pairs.specs.Counts.{choose}
+use Rattle.pairs.specs.Words.{words}
 use Rattle.pairs.specs.Sequences.{compositions, block}
 use Rattle.pairs.specs.Pairs.{start, build, pairs}
 use Rattle.pairs.specs.Replies.{pairReply}
 use Rattle.pairs.proofs.Loops as loops
 use Rattle.pairs.proofs.Binomial.{neighbours, choose-next}
+use Rattle.pairs.proofs.Words.{listed-words}
+use Rattle.pairs.proofs.Shares.{next-fits, next-words}
 use Rattle.pairs.proofs.Compositions.{compositions-count}
 use Rattle.pairs.proofs.Blocks.{blockSize, blockAt, listed-block}
 use Rattle.pairs.proofs.Sequences.{sequenceAt}
@@ -25,11 +29,12 @@ use Rattle.pairs.proofs.pair.seek.Tie as tie
 abbrev at : ℕ → ℕ → ℕ → ℕ → List ℕ
 at n k m place = loops.seek (blockSize n) (blockAt n) [] k m place
 
-record Seeking (n position k count place : ℕ) : Type 0 where
+record Seeking (n position k count kept place : ℕ) : Type 0 where
   few : n ≤ 31
   low : 2 ≤ k
   high : k ≤ n
   parts : count ≡ length (compositions n k)
+  letters : kept ≡ length (words k)
   inside : place < loops.before (blockSize n) k (suc n - k)
   is : at n k (suc n - k) place ≡ sequenceAt n position
 
@@ -49,7 +54,7 @@ module _ (n position : ℕ) (fits : position < length (pairs n)) where
       go (suc zero) h = absurd (omega arith)
       go (suc (suc n)) h = omega arith
 
-  begins : n ≤ 31 → Seeking n position 2 (n - 1) position
+  begins : n ≤ 31 → Seeking n position 2 (n - 1) 2 position
   unfolding sequenceAt
   begins few =
       let m : suc n - 2 ≡ n - 1 = omega arith in
@@ -58,6 +63,7 @@ module _ (n position : ℕ) (fits : position < length (pairs n)) where
         low = omega arith;
         high = two;
         parts = sym (compositions-count n 2 (omega (arith, two)) (omega arith) ∙ choose-one (n - 1));
+        letters = sym (listed-words 2 .long);
         inside = rw m inside;
         is = rw m;
       }
@@ -66,7 +72,7 @@ some : (size : ℕ → ℕ) (a m j : ℕ) → j < loops.before size a m → 0 < 
 some size a zero j h = absurd (omega arith)
 some size a (suc m) j h = omega arith
 
-module _ {n position k count place : ℕ} (h : Seeking n position k count place) where
+module _ {n position k count kept place : ℕ} (h : Seeking n position k count kept place) where
   down : n - 1 - (k - 1) ≡ n - k
   down = omega (arith, h .low)
 
@@ -93,7 +99,7 @@ module _ {n position k count place : ℕ} (h : Seeking n position k count place)
     size-is : s ≡ blockSize n k
     size-is = is ∙ listed-block n k .long
 
-    passes : s ≤ place → Seeking n position (k + 1) (count * (n - k) / k) (place - s)
+    passes : s ≤ place → Seeking n position (k + 1) (count * (n - k) / k) (1 * 2 ^ k % 2 ^ 64 - kept) (place - s)
     passes le =
         let all : place < blockSize n k + loops.before (blockSize n) (suc k) (n - k) = rw blocks at (h .inside) in
         let rest : place - s < loops.before (blockSize n) (suc k) (n - k) = omega (arith, size-is) in
@@ -103,6 +109,7 @@ module _ {n position k count place : ℕ} (h : Seeking n position k count place)
           low = omega (arith, h .low);
           high = omega (arith, some (blockSize n) (suc k) (n - k) (place - s) rest);
           parts = parts-next;
+          letters = next-words k kept (omega (arith, h .high, h .few)) (h .letters);
           inside = rw suc-sub-suc rest;
           is =
               rw (suc-sub-suc n k, size-is) (sym (rw (le-ltb place (blockSize n k) (omega (arith, size-is)))))
@@ -118,10 +125,11 @@ module _ {n position k count place : ℕ} (h : Seeking n position k count place)
         ∙ ap pairReply (sym (pairAt-is n position start fits))
 
 abbrev Inv-loop : tie.InvT-loop
-Inv-loop n position k₀ count₀ place₀ size₀ k count place size = Seeking n position k count place × (size ≡ length (block n k))
+Inv-loop n position k₀ count₀ words₀ place₀ size₀ k count words place size =
+    Seeking n position k count words place × (size ≡ length (block n k))
 
 abbrev μ-loop : tie.MeasureT-loop
-μ-loop n position k₀ count₀ place₀ size₀ k count place size = n - k
+μ-loop n position k₀ count₀ words₀ place₀ size₀ k count words place size = n - k
 
 sub-count : tie.Need-sub-count Inv-loop μ-loop
 sub-count c = omega (arith, two (c .args .n) (c .args .position) (c .pre .1))
@@ -129,7 +137,7 @@ sub-count c = omega (arith, two (c .args .n) (c .args .position) (c .pre .1))
 block-size-requires : tie.Need-block-size-requires Inv-loop μ-loop
 block-size-requires c κs =
     let b = begins (c .args .n) (c .args .position) (c .pre .1) (c .pre .0) in
-    (b .low, (b .high, (b .few, b .parts)))
+    (b .low, (b .high, (b .few, (b .parts, b .letters))))
 
 loop-holds : tie.Need-loop-holds Inv-loop μ-loop
 loop-holds c = (begins (c .before .args .n) (c .before .args .position) (c .before .pre .1) (c .before .pre .0), c .block-size .ensures)
@@ -137,6 +145,7 @@ loop-holds c = (begins (c .before .args .n) (c .before .args .position) (c .befo
 next : (c : tie.In-loop Inv-loop μ-loop)
     → Seeking (c .before .before .before .args .n) (c .before .before .before .args .position) (c .before .loop .k + 1)
     (c .before .loop .count * (c .before .before .before .args .n - c .before .loop .k) / c .before .loop .k)
+    (1 * 2 ^ c .before .loop .k % 2 ^ 64 - c .before .loop .words)
     (c .before .loop .place - c .before .loop .size)
 next c = passes (c .before .loop .inv .0) (c .before .loop .size) (c .before .loop .inv .1) (c .loop-test .taken)
 
@@ -149,11 +158,20 @@ mul-count c = record { fits = product-fits (c .before .loop .inv .0) }
 div-count : tie.Need-div-count Inv-loop μ-loop
 div-count c = omega (arith, c .before .loop .inv .0 .low)
 
+cast-words : tie.Need-cast-words Inv-loop μ-loop
+cast-words c = search needs
+
+shl-words : tie.Need-shl-words Inv-loop μ-loop
+shl-words c = omega (arith, c .before .loop .inv .0 .high, c .before .loop .inv .0 .few)
+
+sub-words : tie.Need-sub-words Inv-loop μ-loop
+sub-words c = let b = c .before .loop .inv .0 in next-fits _ _ (omega (arith, b .high, b .few)) (b .letters)
+
 add-k : tie.Need-add-k Inv-loop μ-loop
 add-k c = record { fits = omega (arith, c .before .loop .inv .0 .high, c .before .loop .inv .0 .few) }
 
 block-size-requires-2 : tie.Need-block-size-requires-2 Inv-loop μ-loop
-block-size-requires-2 c κs = let p = next c in (p .low, (p .high, (p .few, p .parts)))
+block-size-requires-2 c κs = let p = next c in (p .low, (p .high, (p .few, (p .parts, p .letters))))
 
 loop-less : tie.Need-loop-less Inv-loop μ-loop
 loop-less c = omega (arith, next (c .before) .high)
@@ -183,6 +201,9 @@ seek-spec =
     sub-count-2
     mul-count
     div-count
+    cast-words
+    shl-words
+    sub-words
     add-k
     block-size-requires-2
     loop-less

@@ -2,8 +2,13 @@
 -- parts.
 use mathlib.Core.Path.{_≡_, refl, sym, ap, _∙_}
 use Prim.Native.Nat.{ℕ, _+_, _-_, _*_, _%_, _^_, _≤_, _<_}
+use native.Mathlib.Numerals.{add-one}
 use native.Mathlib.Omega.{arith}
+use lib.ListN.{length}
+use Rattle.pairs.specs.Words.{words}
 use Rattle.pairs.proofs.Loops.{before}
+use Rattle.pairs.proofs.Words.{listed-words}
+use Rattle.pairs.proofs.Shares.{next-fits, next-words}
 use Rattle.pairs.proofs.Compositions.{parts, listed-compositions}
 use Rattle.pairs.proofs.Blocks.{blockSize}
 use Rattle.pairs.proofs.Sizes.{
@@ -20,11 +25,11 @@ use Rattle.pairs.proofs.position.blocks_before.Statement.{statement}
 use Rattle.pairs.proofs.position.blocks_before.Tie as tie
 
 abbrev Inv-loop : tie.InvT-loop
-Inv-loop n k j₀ size₀ compositions₀ j size compositions =
-    (2 ≤ j) × (j ≤ k) × (size ≡ before (blockSize n) 2 (j - 2)) × (compositions ≡ parts n j)
+Inv-loop n k j₀ size₀ compositions₀ words₀ j size compositions kept =
+    (2 ≤ j) × (j ≤ k) × (size ≡ before (blockSize n) 2 (j - 2)) × (compositions ≡ parts n j) × (kept ≡ length (words j))
 
 abbrev μ-loop : tie.MeasureT-loop
-μ-loop n k j₀ size₀ compositions₀ j size compositions = k - j
+μ-loop n k j₀ size₀ compositions₀ words₀ j size compositions kept = k - j
 
 sub-compositions : tie.Need-sub-compositions Inv-loop μ-loop
 sub-compositions c = omega arith
@@ -33,16 +38,10 @@ cast-compositions : tie.Need-cast-compositions Inv-loop μ-loop
 cast-compositions c = omega arith
 
 loop-holds : tie.Need-loop-holds Inv-loop μ-loop
-loop-holds c = (omega arith, omega arith, refl, parts-two (c .args .n) (omega arith))
+loop-holds c = (omega arith, omega arith, refl, parts-two (c .args .n) (omega arith), sym (listed-words 2 .long))
 
 cast-loop : tie.Need-cast-loop Inv-loop μ-loop
 cast-loop c = omega arith
-
-cast-word-count : tie.Need-cast-word-count Inv-loop μ-loop
-cast-word-count c = omega arith
-
-word-count-requires : tie.Need-word-count-requires Inv-loop μ-loop
-word-count-requires c κs = omega arith
 
 sub-size : tie.Need-sub-size Inv-loop μ-loop
 sub-size c = omega arith
@@ -54,19 +53,17 @@ shl-size : tie.Need-shl-size Inv-loop μ-loop
 shl-size c = omega arith
 
 -- in a turn, the block of j quotients
-here : (c : tie.After-word-count Inv-loop μ-loop)
-    → c .before .before .loop .compositions
-    * (c .word-count .result * 2 ^ (c .before .before .before .args .n - c .before .before .loop .j) % 2 ^ 64)
-    ≡ blockSize (c .before .before .before .args .n) (c .before .before .loop .j)
+here : (c : tie.In-loop Inv-loop μ-loop)
+    → c .before .loop .compositions * (c .before .loop .words * 2 ^ (c .before .before .args .n - c .before .loop .j) % 2 ^ 64)
+    ≡ blockSize (c .before .before .args .n) (c .before .loop .j)
 here c =
-    size-shifted (c .before .before .before .args .n) (c .before .before .loop .j) (c .before .before .loop .compositions)
-    (c .word-count .result) (omega arith) (omega arith) (c .before .before .loop .inv .3) (c .word-count .ensures)
+    size-shifted (c .before .before .args .n) (c .before .loop .j) (c .before .loop .compositions) (c .before .loop .words)
+    (omega arith) (omega arith) (c .before .loop .inv .3) (c .before .loop .inv .4)
 
-room : (c : tie.After-word-count Inv-loop μ-loop)
-    → c .before .before .loop .size + blockSize (c .before .before .before .args .n) (c .before .before .loop .j) < 2 ^ 60
+room : (c : tie.In-loop Inv-loop μ-loop) → c .before .loop .size + blockSize (c .before .before .args .n) (c .before .loop .j) < 2 ^ 60
 room c =
-    let n : ℕ = c .before .before .before .args .n in
-    let j : ℕ = c .before .before .loop .j in
+    let n : ℕ = c .before .before .args .n in
+    let j : ℕ = c .before .loop .j in
     omega (arith, blocks-within n j (omega arith) (omega arith), sequences-lt n (omega arith))
 
 mul-size : tie.Need-mul-size Inv-loop μ-loop
@@ -83,15 +80,24 @@ cast-compositions-2 c = omega arith
 
 mul-compositions : tie.Need-mul-compositions Inv-loop μ-loop
 mul-compositions c =
-    let n : ℕ = c .before .before .before .args .n in
-    let j : ℕ = c .before .before .loop .j in
-    rw (c .before .before .loop .inv .3) (omega (arith, share-lt n j (n - j) (omega arith) (omega arith)))
+    let n : ℕ = c .before .before .args .n in
+    let j : ℕ = c .before .loop .j in
+    rw (c .before .loop .inv .3) (omega (arith, share-lt n j (n - j) (omega arith) (omega arith)))
 
 cast-compositions-3 : tie.Need-cast-compositions-3 Inv-loop μ-loop
 cast-compositions-3 c = omega arith
 
 div-compositions : tie.Need-div-compositions Inv-loop μ-loop
 div-compositions c = omega arith
+
+cast-words : tie.Need-cast-words Inv-loop μ-loop
+cast-words c = omega arith
+
+shl-words : tie.Need-shl-words Inv-loop μ-loop
+shl-words c = omega arith
+
+sub-words : tie.Need-sub-words Inv-loop μ-loop
+sub-words c = next-fits _ _ (omega arith) (c .before .loop .inv .4)
 
 add-j : tie.Need-add-j Inv-loop μ-loop
 add-j c = omega arith
@@ -101,12 +107,13 @@ loop-less c = omega arith
 
 loop-again : tie.Need-loop-again Inv-loop μ-loop
 loop-again c =
-    let n : ℕ = c .before .before .before .args .n in
-    let j : ℕ = c .before .before .loop .j in (
+    let n : ℕ = c .before .before .args .n in
+    let j : ℕ = c .before .loop .j in (
       omega arith,
       omega arith,
-      rw (here c, c .before .before .loop .inv .2) (sym (blocks-next n j (omega arith))),
-      rw (c .before .before .loop .inv .3) (parts-next n j (omega arith) (omega arith)),
+      rw (here c, c .before .loop .inv .2) (sym (blocks-next n j (omega arith))),
+      rw (c .before .loop .inv .3) (parts-next n j (omega arith) (omega arith)),
+      next-words j (c .before .loop .words) (omega arith) (c .before .loop .inv .4) ∙ ap (λ v. length (words v)) (sym (add-one j)),
     )
 
 returns : tie.Need-returns Inv-loop μ-loop
@@ -128,8 +135,6 @@ blocks-before-spec =
     cast-compositions
     loop-holds
     cast-loop
-    cast-word-count
-    word-count-requires
     sub-size
     cast-size
     shl-size
@@ -140,6 +145,9 @@ blocks-before-spec =
     mul-compositions
     cast-compositions-3
     div-compositions
+    cast-words
+    shl-words
+    sub-words
     add-j
     loop-less
     loop-again

@@ -27,19 +27,21 @@ bits-and-word-requires c κs =
     let start = c .before .before .before in
     (start .pre .1 .0, (start .args .n, start .pre .0, start .pre .1 .1))
 
+word-count-requires : tie.Need-word-count-requires
+word-count-requires c κs = omega (arith, counted (c .before .before .before .before))
+
 rank10-requires : tie.Need-rank10-requires
 rank10-requires c κs =
-    let start = c .before .before .before .before in
-    let a = start .args in (
-      omega (arith, counted start),
-      word-leads (valid start) (length-backwards (a .chain .now) (a .k)) (c .bits-and-word .ensures),
-    )
+    let start = c .before .before .before .before .before in
+    let a = start .args in
+    let word = word-leads (valid start) (length-backwards (a .chain .now) (a .k)) (c .before .bits-and-word .ensures) in
+    (omega (arith, counted start), (c .word-count .ensures, word))
 
 cast-place : tie.Need-cast-place
-cast-place c = omega (arith, counted (c .before .before .before .before .before))
+cast-place c = omega (arith, counted (c .before .before .before .before .before .before))
 
 sub-place : tie.Need-sub-place
-sub-place c = omega (arith, counted (c .before .before .before .before .before))
+sub-place c = omega (arith, counted (c .before .before .before .before .before .before))
 
 cast-place-2 : tie.Need-cast-place-2
 cast-place-2 c = search needs
@@ -52,17 +54,14 @@ cast-place-3 c = search needs
 
 add-place : tie.Need-add-place
 add-place c =
-    let start = c .before .before .before .before .before .before in
+    let start = c .before .before .before .before .before .before .before in
     let a = start .args in
-    let small = place-lt (valid start) (length-backwards (a .chain .now) (a .k)) (c .before .before .bits-and-word .ensures) (start .pre .0)
-    (c .before .before .before .composition-rank .ensures) in
+    let small = place-lt (valid start) (length-backwards (a .chain .now) (a .k)) (c .before .before .before .bits-and-word .ensures)
+    (start .pre .0) (c .before .before .before .before .composition-rank .ensures) in
     omega arith
 
-word-count-requires : tie.Need-word-count-requires
-word-count-requires c κs = omega (arith, counted (c .before .before .before .before .before .before))
-
 -- with all parts found
-module _ (c : tie.After-word-count) where
+module _ (c : tie.After-struct-known) where
   abbrev start : tie.Start
   start = c .before .before .before .before .before .before .before
 
@@ -73,20 +72,22 @@ module _ (c : tie.After-word-count) where
 
   abbrev position : ℕ
   position =
-      c .before .before .before .before .before .blocks-before .result .size + place * c .word-count .result
-      + c .before .before .rank10 .result
+      c .before .before .before .before .before .blocks-before .result .size + place * c .before .before .word-count .result
+      + c .before .rank10 .result
 
   fits : position < 2 ^ 60
   fits =
       position-lt (valid start) (length-backwards (start .args .chain .now) (start .args .k))
       (c .before .before .before .bits-and-word .ensures) (start .pre .0) (c .before .before .before .before .composition-rank .ensures)
-      (c .before .before .before .before .before .blocks-before .ensures .0) (c .before .before .rank10 .ensures) (c .word-count .ensures)
+      (c .before .before .before .before .before .blocks-before .ensures .0) (c .before .rank10 .ensures)
+      (c .before .before .word-count .ensures)
 
   stands : StandsAt (sequences (start .args .n)) position (backwards (start .args .chain .now) (start .args .k))
   stands =
       position-stands (valid start) (length-backwards (start .args .chain .now) (start .args .k))
       (c .before .before .before .bits-and-word .ensures) (start .pre .0) (c .before .before .before .before .composition-rank .ensures)
-      (c .before .before .before .before .before .blocks-before .ensures .0) (c .before .before .rank10 .ensures) (c .word-count .ensures)
+      (c .before .before .before .before .before .blocks-before .ensures .0) (c .before .rank10 .ensures)
+      (c .before .before .word-count .ensures)
 
 mul-result : tie.Need-mul-result
 mul-result c = omega (arith, fits c)
@@ -107,6 +108,7 @@ sequence-position-spec =
     blocks-before-requires
     composition-rank-requires
     bits-and-word-requires
+    word-count-requires
     rank10-requires
     cast-place
     sub-place
@@ -114,7 +116,6 @@ sequence-position-spec =
     shl-place
     cast-place-3
     add-place
-    word-count-requires
     mul-result
     add-result
     add-result-2

@@ -15,7 +15,7 @@ four-pow zero = refl
 four-pow (suc m) = ap (λ (v : ℕ). 2 ^ v) (mul-suc 2 m) ∙ pow-add 2 (2 * m) 2 ∙ rw (four-pow m) (sym (pow-suc 4 m))
 
 shifted : (n : ℕ) → n ≤ 31 → (1 * 2 ^ (2 * (n - 1))) % 2 ^ 64 ≡ 4 ^ (n - 1)
-shifted n h = one-shl (2 * (n - 1)) (omega arith) ∙ four-pow (n - 1)
+shifted n h = one-shl 64 (2 * (n - 1)) (omega arith) ∙ four-pow (n - 1)
 
 bounds : (n : ℕ) → n ≤ 31 → (1 ≤ 4 ^ (n - 1)) × (4 ^ (n - 1) ≤ 2 ^ 60)
 bounds n h = rw (← four-pow (n - 1)) (pow-pos (2 * (n - 1)), pow-mono {j = 60} (omega arith))

@@ -25,7 +25,7 @@ shl-t6 c = omega (arith, degree c)
 
 returns-2 : tie.Need-returns-2
 returns-2 c =
-    rw (sym (c .before .outside .ensures) ∙ c .if1 .left, one-shl (c .before .before .args .self .n) (omega (arith, degree c)))
+    rw (sym (c .before .outside .ensures) ∙ c .if1 .left, one-shl 64 (c .before .before .args .self .n) (omega (arith, degree c)))
 
 pub order-spec : {M : Type 1} → statement M
 order-spec = tie.close (tie.spec outside-requires returns cast-t5 shl-t6 returns-2)
