@@ -87,7 +87,8 @@ def cases():
         yield case(text)
 
 
-if len(sys.argv) > 1:
-    sys.stdout.write("".join(answer(sys.argv[1] + "\n")))
-else:
-    sys.stdout.write("".join(cases()))
+if __name__ == "__main__":
+    if len(sys.argv) > 1:
+        sys.stdout.write("".join(answer(sys.argv[1] + "\n")))
+    else:
+        sys.stdout.write("".join(cases()))
