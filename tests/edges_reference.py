@@ -17,8 +17,8 @@ def say(*words):
 
 
 def padded(values, size):
-    """Lent memory was 0 before, and entries behind what is put stay."""
-    return list(values) + [0] * (size - len(values))
+    """Lent memory was 9 before, and entries behind what is put stay."""
+    return list(values) + [9] * (size - len(values))
 
 
 def chain(n, f, g, reply, quotients):

@@ -122,7 +122,7 @@ fn walk(degree: u32) {
 }
 
 fn chain(n: u32, f: u32, g: u32) {
-    let mut out = [0u32; 32];
+    let mut out = [9u32; 32];
     text(b"chain");
     number(n as u64);
     number(f as u64);
@@ -157,8 +157,8 @@ fn site(n: u32, row: u32, col: u32) {
 }
 
 fn read(file: &[u8]) {
-    let mut powers = [0u16; 64];
-    let mut forces = [0u16; 64];
+    let mut powers = [9u16; 64];
+    let mut forces = [9u16; 64];
     text(b"read:");
     match trial::read(file, &mut powers, &mut forces) {
         ReadTrial::Content(content) => {
@@ -180,7 +180,7 @@ fn read(file: &[u8]) {
 fn write() {
     let powers = [100u16, 110, 120, 130];
     let forces = [200u16, 220, 240, 260];
-    let mut out = [0u8; 19];
+    let mut out = [9u8; 19];
     text(b"write:");
     match trial::write(2, 7, 5, &powers, &forces, b"A", &mut out) {
         Written::Length(size) => number(size as u64),
