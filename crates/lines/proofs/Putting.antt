@@ -1,11 +1,11 @@
 -- Bytes put into a slice in two steps are put in one: `put` is a row of stores, each behind the one before.
 use mathlib.Core.Path.{_≡_, refl, sym, ap, _∙_}
-use Prim.Native.Nat.{ℕ, suc, _+_, _≤_, _<_}
+use Prim.Native.Nat.{ℕ, _+_, _≤_, _<_}
 use mathlib.Core.List.{List, [], _∷_, _++_}
-use native.Mathlib.Nat.{add-zero}
 use native.Mathlib.Omega.{arith}
 use lib.ListN.{length, set, length-append}
 use lib.Seq.{sets, length-sets, sets-eq, paste, take-length}
+use Rattle.poly.proofs.Stores.{sets-append}
 use Rattle.lines.specs.Text.{put, Puts}
 
 put-sets : (out : List ℕ) (at : ℕ) (bytes : List ℕ) → at + length bytes ≤ length out → put out at bytes ≡ sets out at bytes
@@ -14,13 +14,6 @@ put-sets out at bytes h = sym (sets-eq bytes out at h)
 
 pub length-put : (out : List ℕ) (at : ℕ) (bytes : List ℕ) → at + length bytes ≤ length out → length (put out at bytes) ≡ length out
 length-put out at bytes h = rw (put-sets out at bytes h, length-sets)
-
-sets-append : (out : List ℕ) (at : ℕ) (bytes more : List ℕ)
-    → sets out at (bytes ++ more) ≡ sets (sets out at bytes) (at + length bytes) more
-sets-append out at [] more = rw add-zero
-sets-append out at (b ∷ bytes) more =
-    let further : suc at + length bytes ≡ at + suc (length bytes) = omega arith in
-    rw further at (sets-append (set out at b) (suc at) bytes more)
 
 -- All the bytes pasted are the bytes put.
 pub pasted : (out : List ℕ) (at : ℕ) (bytes : List ℕ) {i : ℕ} → i ≡ length bytes → paste out at bytes i ≡ put out at bytes

@@ -9,4 +9,5 @@ pub mod Primes
 pub mod Binary
 pub mod Ranges
 pub mod Shifts
+pub mod Stores
 pub mod Examples

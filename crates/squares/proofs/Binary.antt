@@ -9,11 +9,13 @@ use lib.Arith.{digits-div, digits-mod}
 use lib.Bits.{bitAnd, bitXor, and-step}
 use lib.Count.{ones, ones-step}
 use lib.ListN.{getD}
+use lib.Pow.{pow-pos}
 use Rattle.poly.proofs.Ring
 use Rattle.poly.proofs.Blocks
 use Rattle.poly.proofs.Binary.{add-xor}
-use Rattle.poly.specs.Code.{digit}
+use Rattle.poly.specs.Code.{digit, add}
 use Rattle.squares.specs.Symbols.{number, sum, line, outputCell, symbol}
+use Rattle.squares.proofs.Codes
 use Rattle.squares.proofs.Middle
 use Rattle.squares.proofs.Linear
 
@@ -68,6 +70,17 @@ output-ones n f row {col} i lt l =
     cell j h =
         rw (Middle.digits-append 2 (le-refl 2) n row lt n, Middle.div-pow 2 X (n - suc i) (suc n - suc j))
         (Middle.cell-at 2 (le-refl 2) (n + n) (i + j) ((n - suc i) + (suc n - suc j)) X (omega arith))
+
+-- The symbol at a site given as one number.
+abbrev pub atSite : ℕ → ℕ → ℕ → ℕ
+atSite n f site = symbol 2 n f (site / 2 ^ n) (site % 2 ^ n)
+
+-- It is linear in that number.
+pub site-add : (n : ℕ) {f : ℕ} (a b : ℕ) → f < 2 ^ suc n → atSite n f (add 2 a b) ≡ bitXor (atSite n f a) (atSite n f b)
+site-add n {f} a b f-lt =
+    rw (Codes.add-div 2 (le-refl 2) n a b, Codes.add-mod 2 (le-refl 2) n a b)
+    (Linear.symbol-add 2 (le-refl 2) n f-lt (a / 2 ^ n) (b / 2 ^ n) (mod-lt a (pow-pos n)) (mod-lt b (pow-pos n))
+    ∙ add-xor (atSite n f a) (atSite n f b))
 
 pub symbol-parts : (n : ℕ) {f col : ℕ} (row : ℕ) → f < 2 ^ suc n → col < 2 ^ n
     → symbol 2 n f row col ≡ bitXor (symbol 2 n f row 0) (symbol 2 n f 0 col)

@@ -1,6 +1,6 @@
 -- What a sheet holds: blocks of equal length stand one after the other, rows in the sheet and sites in a row.
 use mathlib.Core.Logic.{_⊎_, inl, inr}
-use mathlib.Core.Path.{_≡_, refl, sym, _∙_}
+use mathlib.Core.Path.{_≡_, refl, sym, ap₂, _∙_}
 use mathlib.Core.List.{List, _++_}
 use Prim.Native.Nat.{ℕ, zero, suc, _+_, _*_, _^_, _<_}
 use native.Mathlib.Nat
@@ -15,7 +15,7 @@ use Rattle.squares.specs.Sheets.{each, siteBytes, rowBytes, sheet}
 use Rattle.squares.specs.Replies.{sheetOf}
 
 module _ (h : ℕ → List ℕ) (w : ℕ) (width : (i : ℕ) → length (h i) ≡ w) where
-  each-length : (k : ℕ) → length (each k h) ≡ k * w
+  pub each-length : (k : ℕ) → length (each k h) ≡ k * w
   each-length zero = sym (Nat.zero-mul w)
   each-length (suc k) = length-append (each k h) (h k) ∙ rw (each-length k, width k) (sym (Nat.suc-mul k w))
 
@@ -29,8 +29,13 @@ module _ (h : ℕ → List ℕ) (w : ℕ) (width : (i : ℕ) → length (h i) �
       go ih (inr less) =
           List·getD-append (each k h) (h k) 0 (i * w + j) (rw (each-length k) (digits-lt less hj)) ∙ ih less
 
+-- Blocks that are equal one by one.
+pub each-equal : {h h′ : ℕ → List ℕ} (k : ℕ) → ((i : ℕ) → i < k → h i ≡ h′ i) → each k h ≡ each k h′
+each-equal zero e = refl
+each-equal (suc k) e = ap₂ _++_ (each-equal k (λ i l. e i (omega arith))) (e k (omega arith))
+
 module _ (N : ℕ) (first second : Square) where
-  row-length : (row : ℕ) → length (rowBytes N first second row) ≡ N * 2
+  pub row-length : (row : ℕ) → length (rowBytes N first second row) ≡ N * 2
   row-length row = each-length (siteBytes first second row) 2 (λ col. refl) N
 
   pub sheet-length : length (sheet N first second) ≡ N * (N * 2)

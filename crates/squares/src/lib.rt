@@ -6,10 +6,11 @@ ghost use mathlib.Core.Path.{_≡_};
 ghost use Prim.Native.Nat.{suc, _*_, _/_, _%_, _^_, _≤_, _<_};
 ghost use mathlib.Core.List.{_++_};
 ghost use lib.ListN.{length, drop};
+ghost use lib.Seq.{sets};
 ghost use Rattle.poly.specs.Code.{digit};
 ghost use Rattle.squares.specs.Symbols.{number, symbol};
 ghost use Rattle.squares.specs.Replies.{symbolsReply, siteReply, laidReply, sheetReply, sheetOf, sheetBytes};
-ghost use Rattle.squares.specs.Parts.{Parts};
+ghost use Rattle.squares.specs.Parts.{Parts, Doubled, rowFrom};
 
 // The symbols of f and of g at a site, or why there are none.
 pub enum Symbols {
@@ -96,37 +97,64 @@ fn symbol_at(n: u32, code: u32, site: u64) -> u32
     cells
 }
 
-// The symbols at the sites 0, stride, 2 stride, ..: with stride 2^n those of column 0, with stride 1 those of row 0.
-fn parts(n: u32, code: u32, stride: u64) -> [u8; 64]
-    requires { ⌜ (n < 7) × (code < 2 ^ suc n) × (stride < 65) ⌝ }
-    ensures { λ r. ⌜ Parts n code stride r ⌝ }
+// The symbols at the multiples of 2^shift: with shift n those of column 0, with shift 0 those of row 0. A symbol is linear in the site, so
+// that each power of two doubles the table.
+fn parts(n: u32, code: u32, shift: u32) -> [u8; 64]
+    requires { ⌜ (n < 7) × (code < 2 ^ suc n) × (shift < 7) ⌝ }
+    ensures { λ r. ⌜ Parts n code shift n r ⌝ }
 {
-    let order: usize = 1 << n;
     let mut table = [0u8; 64];
-    let mut i: usize = 0;
-    while i < order {
-        table[i] = symbol_at(n, code, i as u64 * stride) as u8;
-        i += 1;
+    let mut j: u32 = 0;
+    while j < n {
+        let part = symbol_at(n, code, 1u64 << (shift + j)) as u8;
+        double(&mut table, 1 << j, part);
+        j += 1;
     }
     table
 }
 
-// The sheet, site by site: a symbol is its row's part exclusive or its column's.
+// Behind the first `count` entries, the same exclusive or a part.
+fn double(table: &mut [u8], count: usize, part: u8)
+    requires { ⌜ (count ≤ 32) × (2 * count ≤ length (now table)) ⌝ }
+    ensures { λ _. ⌜ Doubled (now (table .entry)) count part (now (table .exit)) ⌝ }
+{
+    let mut i: usize = 0;
+    while i < count {
+        table[count + i] = table[i] ^ part;
+        i += 1;
+    }
+}
+
+// The sheet, row by row: a symbol is its row's part exclusive or its column's.
 fn fill(n: u32, f: u32, g: u32, out: &mut [u8])
     requires { ⌜ (n < 7) × (f < 2 ^ suc n) × (g < 2 ^ suc n) × (2 * 4 ^ n ≤ length (now out)) ⌝ }
     ensures { λ _. ⌜ now (out .exit) ≡ sheetOf n f g ++ drop (2 * 4 ^ n) (now (out .entry)) ⌝ }
 {
     let order: usize = 1 << n;
-    let f_rows = parts(n, f, order as u64);
-    let f_cols = parts(n, f, 1);
-    let g_rows = parts(n, g, order as u64);
-    let g_cols = parts(n, g, 1);
-    let mut site: usize = 0;
-    while site < order * order {
-        let row = site / order;
-        let col = site % order;
-        out[2 * site] = f_rows[row] ^ f_cols[col];
-        out[2 * site + 1] = g_rows[row] ^ g_cols[col];
-        site += 1;
+    let f_rows = parts(n, f, n);
+    let f_cols = parts(n, f, 0);
+    let g_rows = parts(n, g, n);
+    let g_cols = parts(n, g, 0);
+    let mut row: usize = 0;
+    while row < order {
+        fill_row(order, row, f_rows[row], g_rows[row], &f_cols, &g_cols, out);
+        row += 1;
+    }
+}
+
+// A row of it, from the row's parts f and g and the columns' fs and gs. A loop of its own, so that the compiler takes several columns at
+// once.
+fn fill_row(order: usize, row: usize, f: u8, g: u8, fs: &[u8; 64], gs: &[u8; 64], out: &mut [u8])
+    requires { ⌜ (order ≤ 64) × (row < order) × (2 * (order * order) ≤ length (now out)) ⌝ }
+    ensures { λ _.
+        ⌜ now (out .exit) ≡ sets (now (out .entry)) (2 * (row * order)) (rowFrom order f g (now (fs .entry)) (now (gs .entry))) ⌝ }
+{
+    let start = row * order;
+    let mut col: usize = 0;
+    while col < order {
+        let place = 2 * (start + col);
+        out[place] = f ^ fs[col];
+        out[place + 1] = g ^ gs[col];
+        col += 1;
     }
 }

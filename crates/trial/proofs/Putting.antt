@@ -1,12 +1,13 @@
 -- Bytes put into a slice one after the other: `left` of `all` the bytes are still to be put, from `next` on.
 use mathlib.Core.Path.{_≡_, refl, sym, _∙_}
-use Prim.Native.Nat.{ℕ, suc, _+_, _≤_}
+use Prim.Native.Nat.{ℕ, _+_, _≤_}
 use mathlib.Core.List.{List, [], _∷_, _++_}
 use native.Mathlib.Nat.{add-zero}
 use native.Mathlib.Numerals.{add-one}
 use native.Mathlib.Omega.{arith}
 use lib.ListN.{length, set, length-set, length-append}
 use lib.Seq.{sets, length-sets}
+use Rattle.poly.proofs.Stores.{sets-append}
 use Rattle.trial.specs.Inner.{Puts}
 
 pub record Putting (out₀ out : List ℕ) (at next : ℕ) (all left : List ℕ) : Type 0 where
@@ -16,13 +17,6 @@ pub record Putting (out₀ out : List ℕ) (at next : ℕ) (all left : List ℕ)
 
 pub none-put : (out : List ℕ) (at : ℕ) {all left : List ℕ} → all ≡ left → Putting out out at at all left
 none-put out at e = record { place = rw e; same = rw e; kept = refl }
-
-pub sets-append : (out : List ℕ) (at : ℕ) (bytes left : List ℕ)
-    → sets out at (bytes ++ left) ≡ sets (sets out at bytes) (at + length bytes) left
-sets-append out at [] left = rw add-zero
-sets-append out at (b ∷ bytes) left =
-    let further : suc at + length bytes ≡ at + suc (length bytes) = omega arith in
-    rw further at (sets-append (set out at b) (suc at) bytes left)
 
 module _ {out₀ out : List ℕ} {at next : ℕ} {all : List ℕ} where
   pub byte-put : {byte : ℕ} {left : List ℕ} → Putting out₀ out at next all (byte ∷ left)

@@ -1,124 +1,142 @@
--- `parts` meets its contract. The invariant: the first i entries are made.
-use mathlib.Core.Logic.{_⊎_, inl, inr}
-use mathlib.Core.Path.{_≡_, refl, _∙_}
+-- `parts` meets its contract. The invariant: the first 2^j entries are made. One more power of two doubles them, by linearity.
+use mathlib.Core.Path.{_≡_, refl, sym, ap, _∙_}
 use mathlib.Core.List.{List}
 use Prim.Native.Nat.{ℕ, suc, _+_, _-_, _*_, _/_, _%_, _^_, _≤_, _<_}
-use native.Mathlib.Nat.{le-refl, mod-lt, lt-of-lt-of-le, eq-or-lt-of-le, le-of-suc-le-suc, mul-le-mul-right}
+use native.Mathlib.Nat.{le-refl, mod-lt, lt-of-lt-of-le, pow-suc, one-mul, zero-mul, mul-comm}
+use native.Mathlib.Decide.{decLt}
 use native.Mathlib.Numerals.{add-one}
 use native.Mathlib.Omega.{arith}
-use lib.ListN.{length, getD, set, length-set}
-use lib.Seq.{getD-set-same, getD-set-other}
-use lib.Pow.{pow-pos}
-use Rattle.squares.specs.Symbols.{symbol}
+use borrow.Author.Needs.{needs}
+use lib.Bits.{xor-self}
+use lib.ListN.{length, getD}
+use lib.Pow.{pow-pos, pow-mono, pow-add}
+use Rattle.poly.specs.Code.{add}
+use Rattle.poly.proofs.Ring
+use Rattle.poly.proofs.Blocks
+use Rattle.poly.proofs.Shifts.{one-shl}
+use Rattle.squares.specs.Parts.{Parts, Doubled}
 use Rattle.squares.proofs.Linear.{symbol-lt}
-use Rattle.squares.proofs.Orders.{shifted, order-le}
+use Rattle.squares.proofs.Binary.{atSite, site-add}
+use Rattle.squares.proofs.Orders.{order-le}
 use Rattle.squares.proofs.parts.Statement.{statement}
 use Rattle.squares.proofs.parts.Tie as tie
 
--- the symbol at every stride-th site
-entry : ℕ → ℕ → ℕ → ℕ → ℕ
-entry n code stride i = symbol 2 n code (i * stride / 2 ^ n) (i * stride % 2 ^ n)
+-- the sites behind the first 2^j, as sums
+sum-site : (j shift i : ℕ) → i < 2 ^ j → add 2 (i * 2 ^ shift) (2 ^ (shift + j)) ≡ (2 ^ j + i) * 2 ^ shift
+sum-site j shift i l =
+    rw (
+      pow-add 2 shift j,
+      mul-comm (2 ^ shift) (2 ^ j),
+      Blocks.add-shifts 2 (le-refl 2) shift i (2 ^ j),
+      Ring.add-comm 2 (le-refl 2) i (2 ^ j),
+    )
+    (ap (λ v. v * 2 ^ shift) (rw one-mul at (Blocks.add-parts 2 (le-refl 2) j 1 l)))
 
-record State (n code stride : ℕ) (table : List ℕ) (i : ℕ) : Type 0 where
-  degree : n < 7
-  small : code < 2 ^ suc n
-  near : stride < 65
-  most : i ≤ 2 ^ n
-  size : length table ≡ 64
-  read : (j : ℕ) → j < i → getD table j 0 ≡ entry n code stride j
-
--- one entry more
-turn : {n code stride i v : ℕ} {table : List ℕ} → i < 2 ^ n → v ≡ entry n code stride i → State n code stride table i
-    → State n code stride (set table i v) (i + 1)
-turn {n} {code} {stride} {i} {v} {table} l e s =
-    let inside : i < length table = let order = order-le n (s .degree) in omega arith in
-    record {
-      degree = s .degree;
-      small = s .small;
-      near = s .near;
-      most = omega arith;
-      size = length-set table i v ∙ s .size;
-      read = λ j h. at j inside (eq-or-lt-of-le (le-of-suc-le-suc (rw (add-one i) at h)));
-    }
+-- one power of two more
+turn : {n code shift j part : ℕ} {table table′ : List ℕ} → code < 2 ^ suc n → part ≡ atSite n code (2 ^ (shift + j))
+    → Parts n code shift j table → Doubled table (2 ^ j) part table′ → Parts n code shift (suc j) table′
+turn {n} {code} {shift} {j} {part} {table} {table′} small is p d = record { at = go }
   where
-    at : (j : ℕ) → i < length table → (j ≡ i) ⊎ (j < i) → getD (set table i v) j 0 ≡ entry n code stride j
-    at j inside (inl same) = rw (same, getD-set-same table i v 0 inside) e
-    at j inside (inr less) = getD-set-other table i j v 0 (λ same. omega arith) ∙ s .read j less
+    go : (i : ℕ) → i < 2 ^ suc j → getD table′ i 0 ≡ atSite n code (i * 2 ^ shift)
+    go i l = elim (decLt i (2 ^ j)) [
+      | yes low ↦ d .first i low ∙ p .at i low
+      | no high ↦ let k : ℕ = i - 2 ^ j in
+          let below : k < 2 ^ j = omega (arith, pow-suc 2 j) in
+          let whole : i ≡ 2 ^ j + k = omega arith in
+          ap (λ v. getD table′ v 0) whole ∙ d .second k below
+          ∙ rw (p .at k below, is) (sym (site-add n (k * 2 ^ shift) (2 ^ (shift + j)) small))
+          ∙ ap (atSite n code) (sum-site j shift k below) ∙ ap (λ v. atSite n code (v * 2 ^ shift)) (sym whole)
+    ]
 
-entry-lt : {n code : ℕ} (stride i : ℕ) → n < 7 → code < 2 ^ suc n → entry n code stride i < 64
-unfolding entry
-entry-lt {n} stride i h small =
-    lt-of-lt-of-le (symbol-lt 2 (le-refl 2) n small (i * stride / 2 ^ n) (mod-lt (i * stride) (pow-pos n))) (order-le n h)
+-- the symbol at site 0
+none : {n code : ℕ} (shift : ℕ) {table : List ℕ} → code < 2 ^ suc n → getD table 0 0 ≡ 0 → Parts n code shift 0 table
+unfolding add
+none {n} {code} shift {table} small e = record { at = λ i l. go i (omega arith) }
+  where
+    go : (i : ℕ) → i ≡ 0 → getD table i 0 ≡ atSite n code (i * 2 ^ shift)
+    go i z = rw (z, zero-mul (2 ^ shift)) (e ∙ sym (site-add n 0 0 small ∙ xor-self (atSite n code 0)))
+
+site-lt : {n code : ℕ} (site : ℕ) → n < 7 → code < 2 ^ suc n → atSite n code site < 64
+site-lt {n} site h small = lt-of-lt-of-le (symbol-lt 2 (le-refl 2) n small (site / 2 ^ n) (mod-lt site (pow-pos n))) (order-le n h)
 
 abbrev Inv-loop : tie.InvT-loop
-Inv-loop n code stride order table₀ i₀ table i = State n code stride table i
+Inv-loop n code shift table₀ j₀ table j = (j ≤ n) × (length table ≡ 64) × Parts n code shift j table
 
 abbrev μ-loop : tie.MeasureT-loop
-μ-loop n code stride order table₀ i₀ table i = 2 ^ n - i
-
-shl-order : tie.Need-shl-order Inv-loop μ-loop
-shl-order c = omega arith
+μ-loop n code shift table₀ j₀ table j = n - j
 
 loop-holds : tie.Need-loop-holds Inv-loop μ-loop
-loop-holds c =
-    record {
-      degree = c .pre .0;
-      small = c .pre .1;
-      near = c .pre .2;
-      most = omega arith;
-      size = refl;
-      read = λ j h. absurd (omega arith);
-    }
+loop-holds c = (omega arith, refl, none (c .args .shift) (c .pre .1) refl)
 
-below : (c : tie.In-loop Inv-loop μ-loop) → c .before .loop .i < 2 ^ c .before .before .args .n
-below c = rw (shifted (c .before .before .args .n) (c .before .before .pre .0)) at (c .loop-test .taken)
+add-symbol-at : tie.Need-add-symbol-at Inv-loop μ-loop
+add-symbol-at c = record { fits = omega arith }
 
-mul-symbol-at : tie.Need-mul-symbol-at Inv-loop μ-loop
-mul-symbol-at c =
-    let stride : ℕ = c .before .before .args .stride in
-    let l = below c in
-    let most = order-le (c .before .before .args .n) (c .before .before .pre .0) in
-    let product : c .before .loop .i * stride ≤ 64 * stride = mul-le-mul-right stride (omega arith) in
-    record { fits = omega arith }
+cast-symbol-at : tie.Need-cast-symbol-at Inv-loop μ-loop
+cast-symbol-at c = search needs
+
+shl-symbol-at : tie.Need-shl-symbol-at Inv-loop μ-loop
+shl-symbol-at c = omega arith
 
 symbol-at-requires : tie.Need-symbol-at-requires Inv-loop μ-loop
 symbol-at-requires c κs = omega arith
 
-cast-table : tie.Need-cast-table Inv-loop μ-loop
-unfolding entry
-cast-table c =
+cast-part : tie.Need-cast-part Inv-loop μ-loop
+cast-part c =
     let start = c .before .before .before in
-    let l = entry-lt (start .args .stride) (c .before .before .loop .i) (start .pre .0) (start .pre .1) in
+    let l = site-lt (1 * 2 ^ (start .args .shift + c .before .before .loop .j) % 2 ^ 64) (start .pre .0) (start .pre .1) in
     record { fits = rw (c .symbol-at .ensures) (omega arith) }
 
-array-write-table : tie.Need-array-write-table Inv-loop μ-loop
-array-write-table c =
-    let l = below (c .before) in
-    let most = order-le (c .before .before .before .args .n) (c .before .before .before .pre .0) in
-    omega arith
+slice-aggregate-double : tie.Need-slice-aggregate-double Inv-loop μ-loop
+slice-aggregate-double c = sym (c .before .before .before .loop .inv .1)
 
-add-i : tie.Need-add-i Inv-loop μ-loop
-add-i c =
-    let l = below (c .before) in
-    let most = order-le (c .before .before .before .args .n) (c .before .before .before .pre .0) in
-    record { fits = omega arith }
+cast-double : tie.Need-cast-double Inv-loop μ-loop
+cast-double c = search needs
+
+shl-double : tie.Need-shl-double Inv-loop μ-loop
+shl-double c = omega arith
+
+double-requires : tie.Need-double-requires Inv-loop μ-loop
+double-requires c κs =
+    let loop = c .before .before .before .loop in
+    let few : 2 ^ loop .j ≤ 32 = pow-mono {i = loop .j} {j = 5} (omega arith) in
+    rw (one-shl 64 (loop .j) (omega arith)) (few, omega (arith, loop .inv .1))
+
+add-j : tie.Need-add-j Inv-loop μ-loop
+add-j c = record { fits = omega arith }
 
 loop-less : tie.Need-loop-less Inv-loop μ-loop
-loop-less c = let l = below (c .before) in omega arith
+loop-less c = omega arith
 
 loop-again : tie.Need-loop-again Inv-loop μ-loop
-unfolding entry
-loop-again c = turn (below (c .before)) (c .symbol-at .ensures) (c .before .before .loop .inv)
+loop-again c =
+    let start = c .before .before .before .before .before .before in
+    let loop = c .before .before .before .before .before .loop in
+    let part = rw (one-shl 64 (start .args .shift + loop .j) (omega arith)) at (c .before .before .before .symbol-at .ensures) in
+    let doubled = rw (one-shl 64 (loop .j) (omega arith)) at (c .before .double .ensures) in
+    (omega arith, doubled .long ∙ loop .inv .1, rw add-one (turn (start .pre .1) part (loop .inv .2) doubled))
 
 returns : tie.Need-returns Inv-loop μ-loop
-unfolding entry
 returns c =
-    let order = shifted (c .before .before .args .n) (c .before .before .pre .0) in
-    let done : 2 ^ c .before .before .args .n ≤ c .before .loop .i = omega arith in
-    record { at = λ i h. c .before .loop .inv .read i (omega arith) }
+    let all : c .before .loop .j ≡ c .before .before .args .n = omega arith in
+    record { at = λ i l. c .before .loop .inv .2 .at i (rw all l) }
 
 pub parts-spec : {M : Type 1} → statement M
 parts-spec =
     tie.close
-    (tie.spec Inv-loop μ-loop shl-order loop-holds mul-symbol-at symbol-at-requires cast-table array-write-table add-i loop-less loop-again
+    (tie.spec
+    Inv-loop
+    μ-loop
+    loop-holds
+    add-symbol-at
+    cast-symbol-at
+    shl-symbol-at
+    symbol-at-requires
+    cast-part
+    slice-aggregate-double
+    cast-double
+    shl-double
+    double-requires
+    add-j
+    loop-less
+    loop-again
     returns)
