@@ -1,0 +1,62 @@
+-- The library's records and replies, put together from what C passes.
+use Prim.Native.Nat.{ℕ}
+use mathlib.Core.List.{List, []}
+use mathlib.Core.Path.{_≡_}
+use lib.ListN.{length, take, drop}
+use Rattle.reply.specs.Reply.{Reply, after}
+use Rattle.trial.specs.Parser.{Parsed}
+use Rattle.trial.specs.Trial.{Trial}
+use Rattle.trial.specs.Replies.{read, readReply, nameRead, levelsAfter, writeReply, fileAfter}
+use Rattle.walk.specs.declared.Walk.{Walk}
+use Rattle.walk.specs.Walks.{startReply, lookReply, afterDraw}
+use Rattle.console.specs.Status.{status, value}
+
+-- The walk record with these two fields.
+abbrev pub walkOf : ℕ → ℕ → Walk
+walkOf degree position = record { degree = degree; position = position }
+
+-- What reading a file gives, with these two slices lent for the levels.
+abbrev pub readInto : List ℕ → List ℕ → List ℕ → Parsed Trial
+readInto file powers forces = read (length powers) (length forces) file
+
+-- The reply to it: degree, f, g, and the name's offset and length.
+abbrev pub trialReply : List ℕ → List ℕ → List ℕ → Reply
+trialReply file powers forces = readReply (length file) (readInto file powers forces)
+
+-- A start: what it returns, and the record after it, with what stood there before.
+pub record Starts (n : ℕ) (walk walk′ : Walk) (r : ℕ) : Type 0 where
+  pub returned : r ≡ status (startReply n)
+  pub begun : walk′ ≡ walkOf (value 0 (startReply n) (walk .degree)) (value 1 (startReply n) (walk .position))
+
+-- A look: what it returns, and what stands behind the two pointers after it, with what stood there before.
+pub record Looks (walk : Walk) (f g f′ g′ r : ℕ) : Type 0 where
+  pub returned : r ≡ status (lookReply walk)
+  pub first : f′ ≡ value 0 (lookReply walk) f
+  pub second : g′ ≡ value 1 (lookReply walk) g
+
+-- A draw: the same, and the record after it.
+pub record Draws (walk walk′ : Walk) (f g f′ g′ r : ℕ) : Type 0 where
+  pub returned : r ≡ status (lookReply walk)
+  pub moved : walk′ ≡ afterDraw walk
+  pub first : f′ ≡ value 0 (lookReply walk) f
+  pub second : g′ ≡ value 1 (lookReply walk) g
+
+-- Reading a file: what it returns, the two slices of levels after it, and what stands behind the five pointers after it, with what stood
+-- there before; and that the part of the file which the last two point at is the name.
+pub record TrialRead (file powers forces : List ℕ) (degree f g name size : ℕ) (powers′ forces′ : List ℕ) (degree′ f′ g′ name′ size′ r : ℕ)
+    : Type 0 where
+  pub returned : r ≡ status (trialReply file powers forces)
+  pub powersAfter : powers′ ≡ levelsAfter (λ t. t .powers) (readInto file powers forces) powers
+  pub forcesAfter : forces′ ≡ levelsAfter (λ t. t .forces) (readInto file powers forces) forces
+  pub degreeAfter : degree′ ≡ value 0 (trialReply file powers forces) degree
+  pub fAfter : f′ ≡ value 1 (trialReply file powers forces) f
+  pub gAfter : g′ ≡ value 2 (trialReply file powers forces) g
+  pub nameAfter : name′ ≡ value 3 (trialReply file powers forces) name
+  pub sizeAfter : size′ ≡ value 4 (trialReply file powers forces) size
+  pub named : after (trialReply file powers forces) (take size′ (drop name′ file)) [] ≡ nameRead (readInto file powers forces)
+
+-- Writing a file: what it returns, the slice after it, and what stands behind the pointer for the length.
+pub record TrialWritten (t : Trial) (out : List ℕ) (size : ℕ) (out′ : List ℕ) (size′ r : ℕ) : Type 0 where
+  pub returned : r ≡ status (writeReply t (length out))
+  pub outAfter : out′ ≡ fileAfter t out
+  pub sizeAfter : size′ ≡ value 0 (writeReply t (length out)) size

@@ -1,0 +1,460 @@
+/*
+ * Every function of dinnowell.h against tests/reference.h, on random arguments, valid and damaged. Whatever a call is lent has exactly the
+ * size that the call is told, and guard bytes around it; after each call every byte of it is compared.
+ */
+#include "dinnowell.h"
+#include "reference.h"
+
+#include <inttypes.h>
+#include <stdio.h>
+#include <stdlib.h>
+
+enum { SEED = 20261115, GUARD = 64, LARGEST = 1 << 14, SLOTS = 8 };
+
+static uint64_t state = SEED;
+static uint64_t calls, served;
+/* Bit k: number k was returned; bit 31: spent. */
+static uint32_t seen;
+
+static uint32_t draw(uint32_t below)
+{
+    state ^= state << 13;
+    state ^= state >> 7;
+    state ^= state << 17;
+    return (uint32_t)((state >> 24) % below);
+}
+
+static uint64_t draw64(void)
+{
+    uint64_t high = draw(1u << 31);
+    return high << 33 ^ (uint64_t)draw(1u << 31) << 16 ^ draw(1u << 16);
+}
+
+static void fail(const char *what)
+{
+    printf("differs: %s, call %" PRIu64 "\n", what, calls);
+    exit(1);
+}
+
+static void expect(int holds, const char *what)
+{
+    if (!holds)
+        fail(what);
+}
+
+static void count(uint32_t got, uint32_t want, const char *what)
+{
+    calls++;
+    expect(got == want, what);
+    seen |= 1u << (got == DW_SPENT ? 31 : got);
+    served += got == DW_SERVED;
+}
+
+/* Memory to lend, with a copy of what it should hold. */
+static union {
+    uint64_t aligned;
+    uint8_t bytes[GUARD + LARGEST + GUARD];
+} memory[SLOTS];
+static uint8_t should[SLOTS][GUARD + LARGEST + GUARD];
+static size_t lent[SLOTS];
+
+static void *lend(int slot, size_t bytes)
+{
+    lent[slot] = bytes;
+    for (size_t i = 0; i < GUARD + bytes + GUARD; i++)
+        memory[slot].bytes[i] = (uint8_t)draw(256);
+    memcpy(should[slot], memory[slot].bytes, GUARD + bytes + GUARD);
+    return memory[slot].bytes + GUARD;
+}
+
+/* The same, with content that the call reads. */
+static void *lend_copy(int slot, const void *content, size_t bytes)
+{
+    void *place = lend(slot, bytes);
+    memcpy(place, content, bytes);
+    memcpy(should[slot] + GUARD, content, bytes);
+    return place;
+}
+
+static uint32_t *lend_u32(int slot)
+{
+    return (uint32_t *)lend(slot, sizeof(uint32_t));
+}
+
+static uint64_t *lend_u64(int slot)
+{
+    return (uint64_t *)lend(slot, sizeof(uint64_t));
+}
+
+static size_t *lend_size(int slot)
+{
+    return (size_t *)lend(slot, sizeof(size_t));
+}
+
+/* The bytes in front are what they should be, the others as they were. */
+static void came_back(int slot, const void *front, size_t bytes, const char *what)
+{
+    if (bytes > 0)
+        memcpy(should[slot] + GUARD, front, bytes);
+    expect(memcmp(should[slot], memory[slot].bytes, GUARD + lent[slot] + GUARD) == 0, what);
+}
+
+/* A number behind a pointer: this one where the call is served, otherwise the old one. */
+static void came_u32(int slot, uint32_t refused, uint32_t number, const char *what)
+{
+    came_back(slot, &number, refused ? 0 : sizeof number, what);
+}
+
+static void came_u64(int slot, uint32_t refused, uint64_t number, const char *what)
+{
+    came_back(slot, &number, refused ? 0 : sizeof number, what);
+}
+
+static void came_size(int slot, uint32_t refused, size_t number, const char *what)
+{
+    came_back(slot, &number, refused ? 0 : sizeof number, what);
+}
+
+/* A degree, mostly a good one. */
+static uint32_t some_degree(uint32_t low, uint32_t high)
+{
+    if (draw(16) == 0)
+        return draw(2) ? draw(40) : (uint32_t)draw64();
+    return low + draw(high - low + 1);
+}
+
+/* A code, mostly good at degree n. */
+static uint32_t some_code(uint32_t n)
+{
+    uint32_t top = 1u << (n % 32), code = top | (uint32_t)(draw64() % top) | 1;
+    if (draw(32) == 0)
+        return code & ~1u;
+    return draw(32) == 0 ? (uint32_t)draw64() : code;
+}
+
+static int out_of_range(uint32_t n)
+{
+    return n < 1 || n > 31;
+}
+
+static void try_length(void)
+{
+    uint32_t n = some_degree(1, 31), want = out_of_range(n) ? 1 : 0;
+    count(dw_length(n, lend_u64(0)), want, "dw_length");
+    came_u64(0, want, want ? 0 : ref_length(n), "dw_length: pairs");
+}
+
+static void try_pair_at(void)
+{
+    uint32_t n = some_degree(1, 31), f = 0, g = 0;
+    uint64_t length = out_of_range(n) ? 0 : ref_length(n);
+    uint64_t position = length && draw(16) ? draw64() % length : draw(4) ? length + draw(2) : draw64();
+    uint32_t want = out_of_range(n) ? 1 : position >= length ? 2 : 0;
+    if (want == 0)
+        ref_pair(n, position, &f, &g);
+    uint32_t *to_f = lend_u32(0), *to_g = lend_u32(1);
+    count(dw_pair_at(n, position, to_f, to_g), want, "dw_pair_at");
+    came_u32(0, want, f, "dw_pair_at: f");
+    came_u32(1, want, g, "dw_pair_at: g");
+}
+
+/* The position is right if the pair there is the one asked for: no pair stands twice. */
+static void try_position_of(void)
+{
+    uint32_t n = some_degree(1, 31), f = some_code(n), g = some_code(n), back_f, back_g;
+    uint32_t want = out_of_range(n) ? 1 : ref_coprime(n, f, g);
+    uint64_t position;
+    count(dw_position_of(n, f, g, lend_u64(0)), want, "dw_position_of");
+    memcpy(&position, memory[0].bytes + GUARD, sizeof position);
+    came_u64(0, want, position, "dw_position_of: kept");
+    if (want != 0)
+        return;
+    expect(position < ref_length(n), "dw_position_of: range");
+    ref_pair(n, position, &back_f, &back_g);
+    expect(back_f == f && back_g == g, "dw_position_of: position");
+}
+
+static void try_chain(void)
+{
+    uint32_t n = some_degree(1, 31), f = some_code(n), g = some_code(n), room = draw(8) ? 32 + draw(4) : draw(33);
+    uint32_t want = out_of_range(n) ? 1 : ref_codes(n, f, g), quotients[64], divisor = 0;
+    want = want ? want : room < 32 ? 4 : 0;
+    size_t many = want ? 0 : ref_chain(f, g, quotients, &divisor);
+    uint32_t *out = (uint32_t *)lend(0, 4 * room), *to_divisor = lend_u32(2);
+    count(dw_chain(n, f, g, out, room, lend_size(1), to_divisor), want, "dw_chain");
+    came_back(0, quotients, 4 * many, "dw_chain: quotients");
+    came_size(1, want, many, "dw_chain: count");
+    came_u32(2, want, divisor, "dw_chain: divisor");
+}
+
+static void try_site(void)
+{
+    uint32_t n = some_degree(1, 31), f = some_code(n), g = some_code(n), order = 1u << (n % 32);
+    uint32_t row = draw(32) ? (uint32_t)(draw64() % order) : order + draw(2), col = draw(32) ? (uint32_t)(draw64() % order) : order;
+    uint32_t want = out_of_range(n) ? 1 : ref_codes(n, f, g);
+    want = want ? want : row >= order || col >= order ? 5 : 0;
+    uint32_t *first = lend_u32(0), *second = lend_u32(1);
+    count(dw_site(n, f, g, row, col, first, second), want, "dw_site");
+    came_u32(0, want, want ? 0 : ref_symbol(n, f, row, col), "dw_site: first");
+    came_u32(1, want, want ? 0 : ref_symbol(n, g, row, col), "dw_site: second");
+}
+
+static void try_sheet(void)
+{
+    static uint8_t sheet[DW_SHEET_ROOM];
+    uint32_t n = some_degree(2, 4 + 2 * (draw(16) == 0)), f = some_code(n), g = some_code(n);
+    uint32_t want = n < 2 || n > 6 ? 12 : ref_coprime(n, f, g);
+    size_t size = n < 2 || n > 6 ? 32 : (size_t)2 << 2 * n, room = draw(8) ? size + draw(3) : size - 1 - draw(8), put = 0;
+    want = want ? want : room < size ? 4 : 0;
+    for (uint32_t site = 0; want == 0 && site < size / 2; site++) {
+        sheet[put++] = (uint8_t)ref_symbol(n, f, site >> n, site % (1u << n));
+        sheet[put++] = (uint8_t)ref_symbol(n, g, site >> n, site % (1u << n));
+    }
+    count(dw_sheet(n, f, g, (uint8_t *)lend(0, room), room), want, "dw_sheet");
+    came_back(0, sheet, put, "dw_sheet: sheet");
+}
+
+/* The record where the call is served: its two fields. The padding between them is anyone's. */
+static void came_walk(int slot, uint32_t refused, uint32_t degree, uint64_t position, const char *what)
+{
+    dw_walk walk;
+    memcpy(&walk, memory[slot].bytes + GUARD, sizeof walk);
+    expect(refused || (walk.degree == degree && walk.position == position), what);
+    came_back(slot, &walk, refused ? 0 : sizeof walk, what);
+}
+
+/* A look or a draw on a record, whatever it holds. */
+static void try_next(dw_walk walk, int moves)
+{
+    uint64_t length = out_of_range(walk.degree) ? 0 : ref_length(walk.degree);
+    uint32_t want = out_of_range(walk.degree) || walk.position > length ? 3 : walk.position == length ? DW_SPENT : 0, f = 0, g = 0;
+    if (want == 0)
+        ref_pair(walk.degree, walk.position, &f, &g);
+    dw_walk *place = (dw_walk *)lend_copy(0, &walk, sizeof walk);
+    uint32_t *to_f = lend_u32(1), *to_g = lend_u32(2);
+    count(moves ? dw_draw(place, to_f, to_g) : dw_look(place, to_f, to_g), want, moves ? "dw_draw" : "dw_look");
+    came_walk(0, moves ? want : 1, walk.degree, walk.position + 1, moves ? "dw_draw: walk" : "dw_look: walk");
+    came_u32(1, want, f, "dw_draw, dw_look: f");
+    came_u32(2, want, g, "dw_draw, dw_look: g");
+}
+
+/* Looks and draws on one record that is put near the end of the list, beyond it, or anywhere. */
+static void try_walk(void)
+{
+    uint32_t n = some_degree(1, 31), want = out_of_range(n) ? 1 : 0;
+    dw_walk walk;
+    memset(&walk, 0, sizeof walk);
+    count(dw_start(n, (dw_walk *)lend(0, sizeof walk)), want, "dw_start");
+    came_walk(0, want, n, 0, "dw_start: walk");
+    uint64_t length = out_of_range(n) ? 0 : ref_length(n);
+    walk.degree = n;
+    walk.position = draw(2) ? length - draw(3) + draw(3) : length ? draw64() % length : draw64();
+    for (int i = 0; i < 4; i++) {
+        try_next(walk, (int)draw(2));
+        memcpy(&walk, memory[0].bytes + GUARD, sizeof walk);
+    }
+}
+
+/* A content that is mostly good, and its name. */
+static void some_content(ref_trial *t, uint8_t *name, size_t counts[2])
+{
+    t->n = some_degree(2, 6);
+    do {
+        t->f = some_code(t->n);
+        t->g = some_code(t->n);
+    } while (t->n >= 2 && t->n <= 6 && draw(8) && ref_coprime(t->n, t->f, t->g) == 8);
+    for (int list = 0; list < 2; list++) {
+        counts[list] = t->n > 6 ? draw(65) : (size_t)1 << t->n;
+        if (draw(32) == 0)
+            counts[list] = draw(65);
+        uint32_t level = draw(300);
+        for (size_t i = 0; i < 64; i++) {
+            t->levels[list][i] = (uint16_t)level;
+            level += draw(64 * 24) ? 1 + draw(1000) : 0;
+        }
+    }
+    t->size = draw(32) ? draw(41) : 41 + draw(3);
+    for (size_t i = 0; i < t->size; i++)
+        name[i] = (uint8_t)(32 + draw(95));
+    if (draw(32) == 0)
+        name[draw(44)] = (uint8_t)draw(256);
+}
+
+static void try_write(void)
+{
+    ref_trial t;
+    uint8_t name[64] = { 0 }, encoded[1024];
+    size_t counts[2];
+    some_content(&t, name, counts);
+    size_t size = ref_encode(&t, name, counts, encoded), room = draw(8) ? size + draw(3) : size - 1 - draw(4);
+    uint32_t want = ref_content(&t, name, counts);
+    want = want ? want : room < size ? 4 : 0;
+    const uint16_t *powers = (const uint16_t *)lend_copy(0, t.levels[0], 2 * counts[0]);
+    const uint16_t *forces = (const uint16_t *)lend_copy(1, t.levels[1], 2 * counts[1]);
+    const uint8_t *lent_name = (const uint8_t *)lend_copy(2, name, t.size);
+    uint8_t *out = (uint8_t *)lend(3, room);
+    uint32_t got = dw_write(t.n, t.f, t.g, powers, counts[0], forces, counts[1], lent_name, t.size, out, room, lend_size(4));
+    count(got, want, "dw_write");
+    came_back(0, NULL, 0, "dw_write: powers");
+    came_back(1, NULL, 0, "dw_write: forces");
+    came_back(2, NULL, 0, "dw_write: name");
+    came_back(3, encoded, want ? 0 : size, "dw_write: file");
+    came_size(4, want, size, "dw_write: length");
+}
+
+/* A file that is often damaged at one place. */
+static size_t some_file(uint8_t *file)
+{
+    static const uint8_t odd[6][6] = { { 0x82, 0 }, { 0xff, 0xff, 0xff, 0xff, 0x0f }, { 0xff, 0xff, 0xff, 0xff, 0x10 },
+                                       { 0x80, 0x80, 0x80, 0x80, 0x80, 1 }, { 0x80, 0x80, 4 }, { 0xff, 0xff, 3 } };
+    ref_trial t;
+    uint8_t name[64] = { 0 };
+    size_t counts[2];
+    some_content(&t, name, counts);
+    size_t size = ref_encode(&t, name, counts, file);
+    uint32_t kind = draw(8), at = draw((uint32_t)size), head = draw(4);
+    if (kind == 0)
+        return at;
+    if (kind == 1)
+        file[draw(2) ? at : head] = (uint8_t)draw(256);
+    if (kind == 2)
+        memcpy(file + (draw(2) ? at : head), odd[draw(6)], 6);
+    if (kind == 3)
+        file[size++] = (uint8_t)draw(256);
+    return size;
+}
+
+static void try_read(void)
+{
+    uint8_t bytes[1024];
+    ref_trial t = { 0, 0, 0, { { 0 }, { 0 } }, 0, 0 };
+    size_t size = some_file(bytes), rooms[2] = { draw(32) ? 64 + draw(2) : draw(65), draw(32) ? 64 + draw(2) : draw(65) };
+    uint32_t want = rooms[0] < 64 || rooms[1] < 64 ? 4 : ref_read(bytes, size, &t);
+    const uint8_t *file = (const uint8_t *)lend_copy(2, bytes, size);
+    uint16_t *powers = (uint16_t *)lend(0, 2 * rooms[0]), *forces = (uint16_t *)lend(1, 2 * rooms[1]);
+    uint32_t *n = lend_u32(3), *f = lend_u32(4), *g = lend_u32(5);
+    size_t *name = lend_size(6), *name_size = lend_size(7), levels = want ? 0 : (size_t)2 << t.n;
+    count(dw_read(file, size, powers, rooms[0], forces, rooms[1], n, f, g, name, name_size), want, "dw_read");
+    came_back(0, t.levels[0], levels, "dw_read: powers");
+    came_back(1, t.levels[1], levels, "dw_read: forces");
+    came_back(2, NULL, 0, "dw_read: file");
+    came_u32(3, want, t.n, "dw_read: degree");
+    came_u32(4, want, t.f, "dw_read: f");
+    came_u32(5, want, t.g, "dw_read: g");
+    came_size(6, want, t.name, "dw_read: name's offset");
+    came_size(7, want, t.size, "dw_read: name's length");
+}
+
+/* The list in the paper's own order: compositions, then intermediate bits, then words. */
+static uint64_t listed;
+
+static void list_words(uint32_t n, uint32_t k, const uint32_t *degrees, uint32_t bits)
+{
+    for (uint32_t word = 0; word < 1u << k; word++) {
+        uint32_t at = 2, left = n - k, f, g;
+        uint64_t r = 1, s = 0, place;
+        for (uint32_t i = 0; i < k; i++) {
+            uint32_t letter = word >> (k - 1 - i) & 1;
+            at = ref_next(at, letter);
+            left -= degrees[i] - 1;
+            uint64_t quotient = (1u << degrees[i]) + 2 * (bits >> left & ((1u << (degrees[i] - 1)) - 1)) + letter;
+            uint64_t next = ref_times(quotient, r) ^ s;
+            s = r;
+            r = next;
+        }
+        if (at != 2)
+            continue;
+        count(dw_pair_at(n, listed, &f, &g), 0, "list: served");
+        expect(f == (r ^ s) && g == r && ref_coprime(n, f, g) == 0, "list: pair");
+        count(dw_position_of(n, f, g, &place), 0, "list: position served");
+        expect(place == listed++, "list: position");
+    }
+}
+
+static void list_degrees(uint32_t n, uint32_t k, uint32_t *degrees, uint32_t i, uint32_t left)
+{
+    if (i == k) {
+        for (uint32_t bits = 0; left == 0 && bits < 1u << (n - k); bits++)
+            list_words(n, k, degrees, bits);
+        return;
+    }
+    for (degrees[i] = 1; degrees[i] <= left; degrees[i]++)
+        list_degrees(n, k, degrees, i + 1, left - degrees[i]);
+}
+
+static void whole_lists(void)
+{
+    uint32_t degrees[32];
+    for (uint32_t n = 1; n <= 8; n++) {
+        uint64_t pairs;
+        listed = 0;
+        for (uint32_t k = 2; k <= n; k++)
+            list_degrees(n, k, degrees, 0, n);
+        count(dw_length(n, &pairs), 0, "list: length served");
+        expect(pairs == listed, "list: length");
+    }
+}
+
+/* The longest file there is, which is as long as the header says; a name of 41 bytes is refused. */
+static void longest_file(void)
+{
+    uint16_t levels[64];
+    uint8_t name[41], file[DW_FILE_ROOM];
+    size_t length = 0;
+    for (uint32_t i = 0; i < 64; i++)
+        levels[i] = (uint16_t)(65472 + i);
+    memset(name, 'A', sizeof name);
+    count(dw_write(6, 67, 91, levels, 64, levels, 64, name, 40, file, sizeof file, &length), 0, "longest file");
+    expect(length == sizeof file, "longest file: length");
+    count(dw_write(6, 67, 91, levels, 64, levels, 64, name, 41, file, sizeof file, &length), 15, "name of 41 bytes");
+}
+
+/* The entries that document 01 prints. */
+static void printed_entries(void)
+{
+    uint32_t f, g;
+    uint64_t end = UINT64_C(768614336404564650), pairs;
+    count(dw_length(31, &pairs), 0, "degree 31");
+    expect(pairs == end, "degree 31: length");
+    count(dw_pair_at(31, end - 1, &f, &g), 0, "degree 31: last");
+    count(dw_pair_at(31, end, &f, &g), 2, "degree 31: end");
+    count(dw_pair_at(4, 41, &f, &g), 0, "degree 4: last");
+    expect(f == 19 && g == 25, "degree 4: pair 41");
+    dw_walk walk;
+    count(dw_start(1, &walk), 0, "degree 1");
+    count(dw_draw(&walk, &f, &g), DW_SPENT, "degree 1: spent");
+}
+
+/* Runs one part, in which each of the numbers, and spent where it is said, must be met. */
+static void part(const char *name, void (*once)(void), int times, uint32_t least, uint32_t most, uint32_t others)
+{
+    uint32_t numbers = ((2u << most) - (1u << least)) | others | 1;
+    calls = served = seen = 0;
+    for (int i = 0; i < times; i++)
+        once();
+    if (seen != numbers) {
+        printf("%s: met %08" PRIx32 ", not %08" PRIx32 "\n", name, seen, numbers);
+        exit(1);
+    }
+    printf("%-16s %9" PRIu64 " calls, %9" PRIu64 " served, each of its numbers met\n", name, calls, served);
+}
+
+int main(int argc, char **argv)
+{
+    int scale = argc > 1 ? atoi(argv[1]) : 1000;
+    uint32_t four = 1u << 4, twelve = 1u << 12, spent = 1u << 31;
+    printf("seed %d\n", SEED);
+    part("printed entries", printed_entries, 1, 2, 2, spent);
+    part("whole lists", whole_lists, 1, 0, 0, 0);
+    part("longest file", longest_file, 1, 15, 15, 0);
+    part("dw_length", try_length, 100 * scale, 1, 1, 0);
+    part("dw_pair_at", try_pair_at, 300 * scale, 1, 2, 0);
+    part("dw_position_of", try_position_of, 300 * scale, 6, 8, 1u << 1);
+    part("dw_chain", try_chain, 300 * scale, 6, 7, 1u << 1 | four);
+    part("dw_site", try_site, 300 * scale, 5, 7, 1u << 1);
+    part("dw_sheet", try_sheet, 20 * scale, 6, 8, four | twelve);
+    part("the walk", try_walk, 100 * scale, 3, 3, 1u << 1 | spent);
+    part("dw_write", try_write, 200 * scale, 14, 16, four | 7u << 6 | twelve);
+    part("dw_read", try_read, 200 * scale, 6, 17, four);
+    return 0;
+}

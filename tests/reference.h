@@ -1,0 +1,304 @@
+/* Document 01 once more, written for the test and sharing nothing with the library: slow and plain. */
+#ifndef REFERENCE_H
+#define REFERENCE_H
+
+#include <stddef.h>
+#include <stdint.h>
+#include <string.h>
+
+static int ref_degree(uint64_t code)
+{
+    int d = -1;
+    for (; code != 0; code >>= 1)
+        d++;
+    return d;
+}
+
+/* The quotient of a by b; *rest is the remainder. */
+static uint32_t ref_divide(uint32_t a, uint32_t b, uint32_t *rest)
+{
+    uint32_t q = 0;
+    while (ref_degree(a) >= ref_degree(b)) {
+        int shift = ref_degree(a) - ref_degree(b);
+        q |= 1u << shift;
+        a ^= b << shift;
+    }
+    *rest = a;
+    return q;
+}
+
+/* How many quotients there are; they go to out, the greatest common divisor to *divisor. */
+static size_t ref_chain(uint32_t f, uint32_t g, uint32_t *out, uint32_t *divisor)
+{
+    size_t count = 0;
+    while (g != 0) {
+        uint32_t rest;
+        out[count++] = ref_divide(f, g, &rest);
+        f = g;
+        g = rest;
+    }
+    *divisor = f;
+    return count;
+}
+
+static uint64_t ref_length(uint32_t n)
+{
+    return 2 * ((UINT64_C(1) << (2 * (n - 1))) - 1) / 3;
+}
+
+static uint32_t ref_code(uint32_t n, uint32_t code)
+{
+    return ref_degree(code) != (int)n ? 6 : code % 2 == 0 ? 7 : 0;
+}
+
+static uint32_t ref_codes(uint32_t n, uint32_t f, uint32_t g)
+{
+    uint32_t first = ref_code(n, f);
+    return first != 0 ? first : ref_code(n, g);
+}
+
+static uint32_t ref_coprime(uint32_t n, uint32_t f, uint32_t g)
+{
+    uint32_t codes = ref_codes(n, f, g), quotients[64], divisor;
+    if (codes != 0)
+        return codes;
+    ref_chain(f, g, quotients, &divisor);
+    return divisor != 1 ? 8 : 0;
+}
+
+/* How many words of k letters lead from a state, written as its two bits, to (1,0). */
+static uint64_t ref_words(uint32_t k, uint32_t state)
+{
+    if (k == 0)
+        return state == 2;
+    if (state == 2)
+        return ref_words(k - 1, 1) + ref_words(k - 1, 3);
+    if (state == 3)
+        return ref_words(k - 1, 3) + ref_words(k - 1, 1);
+    return 2 * ref_words(k - 1, 2);
+}
+
+static uint32_t ref_next(uint32_t state, uint32_t letter)
+{
+    if (state == 1)
+        return 2;
+    return (state == 2) == (letter == 0) ? 1 : 3;
+}
+
+static uint64_t ref_choose(uint32_t n, uint32_t k)
+{
+    uint64_t c = 1;
+    for (uint32_t i = 0; i < k; i++)
+        c = c * (n - i) / (i + 1);
+    return k > n ? 0 : c;
+}
+
+/* The word at an index among the kept ones, letter 1 in the highest of k bits. */
+static uint32_t ref_word(uint32_t k, uint64_t index, const uint64_t counts[32][4])
+{
+    uint32_t word = 0, state = 2;
+    for (uint32_t left = k; left > 0; left--) {
+        uint64_t zeros = counts[left - 1][ref_next(state, 0)];
+        uint32_t letter = index >= zeros;
+        index -= letter ? zeros : 0;
+        word = 2 * word + letter;
+        state = ref_next(state, letter);
+    }
+    return word;
+}
+
+/* The degrees of the composition of n into k parts at an index. */
+static void ref_composition(uint32_t n, uint32_t k, uint64_t index, uint32_t *degrees)
+{
+    for (uint32_t i = 0; i < k; i++) {
+        uint32_t d = 1, parts = k - i - 1;
+        for (; parts > 0; d++) {
+            uint64_t count = n < d + 1 ? 0 : ref_choose(n - d - 1, parts - 1);
+            if (index < count)
+                break;
+            index -= count;
+        }
+        degrees[i] = parts > 0 ? d : n;
+        n -= degrees[i];
+    }
+}
+
+static uint64_t ref_times(uint64_t a, uint64_t b)
+{
+    uint64_t sum = 0;
+    for (; b != 0; b >>= 1, a <<= 1)
+        sum ^= b & 1 ? a : 0;
+    return sum;
+}
+
+static void ref_pair(uint32_t n, uint64_t position, uint32_t *f, uint32_t *g)
+{
+    static uint64_t counts[32][4];
+    for (uint32_t k = counts[0][2] ? 32 : 0; k < 32; k++)
+        for (uint32_t state = 1; state < 4; state++)
+            counts[k][state] = k < 12 ? ref_words(k, state)
+                                      : counts[k - 1][ref_next(state, 0)] + counts[k - 1][ref_next(state, 1)];
+    uint32_t k = 2;
+    uint64_t size;
+    while ((size = (ref_choose(n - 1, k - 1) * counts[k][2]) << (n - k)) <= position) {
+        position -= size;
+        k++;
+    }
+    uint32_t degrees[32], word = ref_word(k, position % counts[k][2], counts), left = n - k;
+    uint64_t bits = position / counts[k][2] % (UINT64_C(1) << (n - k));
+    ref_composition(n, k, position / counts[k][2] >> (n - k), degrees);
+    uint64_t r = 1, s = 0;
+    for (uint32_t i = 0; i < k; i++) {
+        left -= degrees[i] - 1;
+        uint64_t middle = (bits >> left) % (UINT64_C(1) << (degrees[i] - 1));
+        uint64_t quotient = (UINT64_C(1) << degrees[i]) + 2 * middle + (word >> (k - 1 - i)) % 2;
+        uint64_t next = ref_times(quotient, r) ^ s;
+        s = r;
+        r = next;
+    }
+    *f = (uint32_t)(r ^ s);
+    *g = (uint32_t)r;
+}
+
+static uint32_t ref_symbol(uint32_t n, uint32_t code, uint32_t row, uint32_t col)
+{
+    uint32_t cells[64], symbol = 0;
+    for (uint32_t i = 0; i < n; i++) {
+        cells[i] = row >> (n - 1 - i) & 1;
+        cells[n + i] = col >> (n - 1 - i) & 1;
+    }
+    for (uint32_t i = 0; i < n; i++) {
+        uint32_t ones = 0;
+        for (uint32_t j = 0; j <= n; j++)
+            ones += (code >> j & 1) * cells[i + j];
+        symbol = 2 * symbol + ones % 2;
+    }
+    return symbol;
+}
+
+/* A file's content; the name is a part of the file. */
+typedef struct ref_trial {
+    uint32_t n, f, g;
+    uint16_t levels[2][64];
+    size_t name, size;
+} ref_trial;
+
+static uint32_t ref_number(const uint8_t *file, size_t length, size_t *at, uint32_t *number)
+{
+    uint64_t sum = 0;
+    for (int i = 0; i < 5; i++) {
+        if (*at == length)
+            return 9;
+        uint8_t byte = file[(*at)++];
+        sum += (uint64_t)(byte & 127) << 7 * i;
+        if (byte < 128) {
+            *number = (uint32_t)sum;
+            return (i > 0 && byte == 0) || sum > UINT32_MAX ? 10 : 0;
+        }
+    }
+    return 10;
+}
+
+static uint32_t ref_levels(const uint8_t *file, size_t length, size_t *at, uint32_t count, uint16_t *levels)
+{
+    for (uint32_t i = 0; i < count; i++) {
+        uint32_t level, form = ref_number(file, length, at, &level);
+        if (form != 0)
+            return form;
+        if (level > 65535)
+            return 13;
+        if (i > 0 && level <= levels[i - 1])
+            return 14;
+        levels[i] = (uint16_t)level;
+    }
+    return 0;
+}
+
+static uint32_t ref_head(const uint8_t *file, size_t length, size_t *at, ref_trial *t)
+{
+    uint32_t version, why;
+    if ((why = ref_number(file, length, at, &version)) != 0)
+        return why;
+    if (version != 1)
+        return 11;
+    if ((why = ref_number(file, length, at, &t->n)) != 0)
+        return why;
+    if (t->n < 2 || t->n > 6)
+        return 12;
+    if ((why = ref_number(file, length, at, &t->f)) != 0 || (why = ref_code(t->n, t->f)) != 0)
+        return why;
+    if ((why = ref_number(file, length, at, &t->g)) != 0 || (why = ref_code(t->n, t->g)) != 0)
+        return why;
+    return ref_coprime(t->n, t->f, t->g);
+}
+
+static uint32_t ref_printable(const uint8_t *name, size_t size)
+{
+    for (size_t i = 0; i < size; i++)
+        if (name[i] < 32 || name[i] > 126)
+            return 0;
+    return 1;
+}
+
+static uint32_t ref_read(const uint8_t *file, size_t length, ref_trial *t)
+{
+    size_t at = 0;
+    uint32_t size, why = ref_head(file, length, &at, t);
+    for (int i = 0; i < 2 && why == 0; i++)
+        why = ref_levels(file, length, &at, 1u << t->n, t->levels[i]);
+    if (why != 0 || (why = ref_number(file, length, &at, &size)) != 0)
+        return why;
+    if (size > 40)
+        return 15;
+    if (length - at < size)
+        return 9;
+    t->name = at;
+    t->size = size;
+    if (!ref_printable(file + at, size))
+        return 16;
+    return at + size < length ? 17 : 0;
+}
+
+static size_t ref_put(uint8_t *out, size_t at, uint64_t number)
+{
+    for (; number >= 128; number /= 128)
+        out[at++] = (uint8_t)(number % 128 + 128);
+    out[at++] = (uint8_t)number;
+    return at;
+}
+
+/* The bytes of a content, as they stand, right or wrong. */
+static size_t ref_encode(const ref_trial *t, const uint8_t *name, const size_t counts[2], uint8_t *out)
+{
+    size_t at = ref_put(out, 0, 1);
+    at = ref_put(out, at, t->n);
+    at = ref_put(out, at, t->f);
+    at = ref_put(out, at, t->g);
+    for (int list = 0; list < 2; list++)
+        for (size_t i = 0; i < counts[list]; i++)
+            at = ref_put(out, at, t->levels[list][i]);
+    at = ref_put(out, at, t->size);
+    memcpy(out + at, name, t->size);
+    return at + t->size;
+}
+
+/* What the writer refuses a content for, but for the room. */
+static uint32_t ref_content(const ref_trial *t, const uint8_t *name, const size_t counts[2])
+{
+    if (t->n < 2 || t->n > 6)
+        return 12;
+    uint32_t why = ref_coprime(t->n, t->f, t->g);
+    if (why != 0)
+        return why;
+    if (counts[0] != (size_t)1 << t->n || counts[1] != (size_t)1 << t->n)
+        return 4;
+    for (int list = 0; list < 2; list++)
+        for (size_t i = 1; i < counts[list]; i++)
+            if (t->levels[list][i] <= t->levels[list][i - 1])
+                return 14;
+    if (t->size > 40)
+        return 15;
+    return ref_printable(name, t->size) ? 0 : 16;
+}
+
+#endif
