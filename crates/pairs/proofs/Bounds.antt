@@ -6,9 +6,13 @@ use native.Mathlib.Omega.{arith}
 use mathlib.Core.Path.{_≡_}
 use lib.Arith.{le-zero}
 use lib.Dec.{ltb, ltb→lt}
+use lib.ListN.{length}
+use lib.Pow.{pow-mono}
 use Rattle.pairs.specs.Counts.{choose}
 use Rattle.pairs.specs.Loops.{numbers}
+use Rattle.pairs.specs.Words.{words}
 use Rattle.pairs.proofs.Entries.{entry}
+use Rattle.pairs.proofs.Words.{words-closed}
 use Rattle.pairs.proofs.Binomial.{choose-above}
 use Rattle.pairs.proofs.Blocks.{blockSize}
 use Rattle.pairs.proofs.Sequences.{blockSize-le}
@@ -34,6 +38,9 @@ choose-times-lt n k h = elim (decLt k 31) [
   | yes l ↦ lt-of-le-of-lt (mul-le-mul-right k (choose-mono 30 n k h)) (greatest k l)
   | no l ↦ rw (choose-above n k (omega arith), zero-mul k) (omega arith)
 ]
+
+pub words-lt : (k : ℕ) → k ≤ 31 → length (words k) < 2 ^ 32
+words-lt k h = omega (arith, words-closed k, pow-mono {i = k} {j = 31} h)
 
 pub blockSize-lt : (n k : ℕ) → 2 ≤ k → k ≤ n → n ≤ 31 → blockSize n k < 2 ^ 61
 blockSize-lt n k two le h =

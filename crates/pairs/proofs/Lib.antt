@@ -25,4 +25,10 @@ pub mod Sizes
 pub mod ReadBack
 pub mod Assembly
 pub mod Chained
+pub mod Written
+pub mod Onward
+pub mod Gaps
+pub mod Heads
+pub mod Groups
+pub mod Listing
 pub mod Examples

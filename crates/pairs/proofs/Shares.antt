@@ -11,7 +11,7 @@ use Rattle.pairs.specs.Words.{State, s10, s11, s01, step, wordsFrom, wor
 use Rattle.pairs.proofs.Words.{count-suc, count-s11, neighbours, listed-words}
 use Rattle.pairs.proofs.Ranking.{length-words}
 
-split : (s : State) (m : ℕ) → 1 ≤ m
+pub split : (s : State) (m : ℕ) → 1 ≤ m
     → length (wordsFrom s m) ≡ length (wordsFrom (step s false) (m - 1)) + length (wordsFrom (step s true) (m - 1))
 split s zero h = absurd (omega arith)
 split s (suc m) h =
@@ -24,7 +24,7 @@ to11 (suc zero) h = absurd (omega arith)
 to11 (suc (suc m)) h = rw (sub-one, length-words, length-words) (let all : _ = neighbours (suc m) in omega arith)
 
 -- As many words lead from there as from (1,0).
-as-many : (m : ℕ) → 1 ≤ m → length (wordsFrom s11 m) ≡ length (wordsFrom s10 m)
+pub as-many : (m : ℕ) → 1 ≤ m → length (wordsFrom s11 m) ≡ length (wordsFrom s10 m)
 as-many zero h = absurd (omega arith)
 as-many (suc m) h = rw (length-words, length-words) (count-s11 m)
 

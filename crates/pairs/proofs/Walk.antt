@@ -45,12 +45,12 @@ walk (suc g) p i b (l ∷ w) q =
     cond (ltb i (parts (suc g) p)) comma plus
 
 -- The quotients of these degrees, bits and letters, the first of which begins with q instead of 1.
-abbrev leading : ℕ → List ℕ → ℕ → List Bool → List ℕ
+abbrev pub leading : ℕ → List ℕ → ℕ → List Bool → List ℕ
 leading q [] b w = []
 leading q (d ∷ ds) b [] = []
 leading q (d ∷ ds) b (l ∷ w) = (q * 2 ^ d + b / 2 ^ bits ds * 2 + bit l) ∷ quotients ds (b % 2 ^ bits ds) w
 
-leading-one : (ds : List ℕ) (b : ℕ) (w : List Bool) → leading 1 ds b w ≡ quotients ds b w
+pub leading-one : (ds : List ℕ) (b : ℕ) (w : List Bool) → leading 1 ds b w ≡ quotients ds b w
 leading-one [] b w = refl
 leading-one (d ∷ ds) b [] = refl
 leading-one (d ∷ ds) b (l ∷ w) = rw one-mul

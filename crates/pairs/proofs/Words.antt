@@ -44,7 +44,7 @@ count-suc s10 m = refl
 count-suc s11 m = refl
 count-suc s01 m = refl
 
-wordsFrom-suc : (s : State) (m : ℕ)
+pub wordsFrom-suc : (s : State) (m : ℕ)
     → wordsFrom s (suc m) ≡ map (_∷_ false) (wordsFrom (step s false) m) ++ map (_∷_ true) (wordsFrom (step s true) m)
 unfolding wordsFrom
 wordsFrom-suc s m = simp (filter-append, filter-map)

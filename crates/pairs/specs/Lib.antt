@@ -6,3 +6,4 @@ pub mod Pairs
 pub mod Replies
 pub mod Claims
 pub mod Ranking
+pub mod Filling

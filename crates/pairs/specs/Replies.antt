@@ -1,14 +1,17 @@
 -- The replies of this crate's calls.
-use Prim.Native.Nat.{ℕ, suc}
+use Prim.Native.Nat.{ℕ, suc, _/_}
 use mathlib.Core.Bool.{cond, _&&_}
 use mathlib.Core.List.{List, [], _∷_, _++_}
-use lib.Dec.{leb, eqb}
+use lib.Dec.{leb, ltb, eqb}
+use lib.ListN.{length, take, drop}
 use Rattle.reply.specs.Numbers.{numberOf}
-use Rattle.reply.specs.Reply.{Reply, served, refused, unless, _gives_}
+use Rattle.reply.specs.Reply.{Reply, served, refused, unless, _gives_, after}
 use Rattle.poly.specs.Limits.{listLength}
 use Rattle.poly.specs.Causes.{degreeCause, codeCauses, commonFactor}
 use Rattle.euclid.specs.Chain.{Pair}
 use Rattle.pairs.specs.Pairs.{pairs, entry}
+use Rattle.pairs.specs.declared.answer.Filled.{Filled}
+use Rattle.pairs.specs.declared.answer.Filled.the-variants.{Pairs, Refused as Unfilled}
 use Rattle.pairs.specs.declared.answer.Found.{Found}
 use Rattle.pairs.specs.declared.answer.Found.the-variants.{Codes, Refused}
 use Rattle.pairs.specs.declared.answer.Place.{Place}
@@ -40,3 +43,28 @@ placeReply (Nowhere refusal) = refused (numberOf refusal)
 unfoldable pub positionReply : ℕ → ℕ → ℕ → Reply
 positionReply n f g =
     unless (degreeCause n ∷ codeCauses n f ++ codeCauses n g ++ (commonFactor f g ∷ [])) (served (indexOf f g (pairs n) ∷ []))
+
+-- f and g of each pair in turn.
+abbrev pub codes : List Pair → List ℕ
+codes [] = []
+codes (pair ∷ rest) = pair .f ∷ pair .g ∷ codes rest
+
+-- The pairs from a position on, as many as fit into `room` numbers.
+unfoldable pub pairsFrom : ℕ → ℕ → ℕ → List Pair
+pairsFrom n position room = take (room / 2) (drop position (pairs n))
+
+abbrev pub filledReply : Filled → Reply
+filledReply (Pairs count) = served (count ∷ [])
+filledReply (Unfilled refusal) = refused (numberOf refusal)
+
+-- How many there are; 4, a slice that holds no pair.
+unfoldable pub fromReply : ℕ → ℕ → ℕ → Reply
+fromReply n position room =
+    unless (degreeCause n ∷ leb (listLength n) position gives 2 ∷ ltb room 2 gives 4 ∷ [])
+    (served (length (pairsFrom n position room) ∷ []))
+
+-- The lent slice afterwards: their codes, and behind them what stood there; where the call is refused, all that stood there.
+unfoldable pub fromContent : ℕ → ℕ → List ℕ → List ℕ
+fromContent n position out =
+    let written : List ℕ = codes (pairsFrom n position (length out)) in
+    after (fromReply n position (length out)) (written ++ drop (length written) out) out

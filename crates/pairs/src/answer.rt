@@ -12,3 +12,9 @@ pub enum Place {
     At(u64),
     Refused(Refusal),
 }
+
+// How many pairs were written, or why there are none.
+pub enum Filled {
+    Pairs(usize),
+    Refused(Refusal),
+}

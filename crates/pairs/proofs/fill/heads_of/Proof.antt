@@ -1,0 +1,135 @@
+-- `heads_of` meets its contract: the laws of `Heads` say that each turn of the loop keeps what the heads are to give.
+use mathlib.Core.Path.{refl}
+use Prim.Native.Nat.{_-_, _/_, _^_}
+use native.Mathlib.Omega.{arith}
+use lib.ListN.{replicate}
+use Rattle.pairs.proofs.Gaps.{share-fits, comma-left, plus-left, share-le}
+use Rattle.pairs.proofs.Heads.{Between, begins, commas-lt, head-fits, comma-turn, plus-turn, finished}
+use Rattle.pairs.proofs.fill.heads_of.Statement.{statement}
+use Rattle.pairs.proofs.fill.heads_of.Tie as tie
+
+abbrev Inv-loop : tie.InvT-loop
+Inv-loop n k count group heads₀ index₀ left₀ gaps₀ commas₀ head₀ heads index left gaps commas head =
+    Between n k group heads index left gaps commas head
+
+abbrev μ-loop : tie.MeasureT-loop
+μ-loop n k count group heads₀ index₀ left₀ gaps₀ commas₀ head₀ heads index left gaps commas head =
+    gaps
+
+first : (c : tie.Start Inv-loop μ-loop)
+    → Between (c .args .n) (c .args .k) (c .args .group) (replicate 32 0) (c .args .group / 2 ^ (c .args .n - c .args .k)) (c .args .count)
+    (c .args .n - 1) (c .args .k - 1) 1
+first c =
+    let a = c .args in
+    begins (a .n) (a .k) (a .count) (a .group) (replicate 32 0) (c .pre .0) (c .pre .1) (c .pre .2) (c .pre .3) (c .pre .4) refl
+
+sub-index : tie.Need-sub-index Inv-loop μ-loop
+sub-index c = omega arith
+
+cast-index : tie.Need-cast-index Inv-loop μ-loop
+cast-index c = omega arith
+
+shr-index : tie.Need-shr-index Inv-loop μ-loop
+shr-index c = omega arith
+
+cast-index-2 : tie.Need-cast-index-2 Inv-loop μ-loop
+cast-index-2 c = record { fits = omega (arith, first c .choices .inside, c .fits .count .fits) }
+
+sub-gaps : tie.Need-sub-gaps Inv-loop μ-loop
+sub-gaps c = omega arith
+
+sub-commas : tie.Need-sub-commas Inv-loop μ-loop
+sub-commas c = omega arith
+
+loop-holds : tie.Need-loop-holds Inv-loop μ-loop
+loop-holds c = first c
+
+mul-with-comma : tie.Need-mul-with-comma Inv-loop μ-loop
+mul-with-comma c = let b = c .before .loop .inv in record { fits = share-fits (b .choices) (omega (arith, b .few, b .gap)) }
+
+div-with-comma : tie.Need-div-with-comma Inv-loop μ-loop
+div-with-comma c = omega arith
+
+sub-gaps-2 : tie.Need-sub-gaps-2 Inv-loop μ-loop
+sub-gaps-2 c = omega arith
+
+cast-heads : tie.Need-cast-heads Inv-loop μ-loop
+cast-heads c = omega (arith, commas-lt (c .before .before .loop .inv))
+
+mul-heads : tie.Need-mul-heads Inv-loop μ-loop
+mul-heads c = omega (arith, commas-lt (c .before .before .loop .inv))
+
+array-write-heads : tie.Need-array-write-heads Inv-loop μ-loop
+array-write-heads c = omega (arith, commas-lt (c .before .before .loop .inv))
+
+sub-commas-2 : tie.Need-sub-commas-2 Inv-loop μ-loop
+sub-commas-2 c = comma-left _ _ (c .before .before .loop .inv .choices) (c .before .loop-test .taken) (c .if1 .taken)
+
+loop-less : tie.Need-loop-less Inv-loop μ-loop
+loop-less c = omega arith
+
+loop-again : tie.Need-loop-again Inv-loop μ-loop
+loop-again c = comma-turn _ _ (c .before .before .loop .inv) (c .before .loop-test .taken) (c .if1 .taken)
+
+sub-head : tie.Need-sub-head Inv-loop μ-loop
+sub-head c = plus-left _ _ (c .before .before .loop .inv .choices) (c .before .loop-test .taken) (c .if1 .left)
+
+cast-head : tie.Need-cast-head Inv-loop μ-loop
+cast-head c = record { fits = omega (arith, c .before .before .loop .inv .gap, c .before .before .loop .inv .few) }
+
+shr-head : tie.Need-shr-head Inv-loop μ-loop
+shr-head c = omega (arith, c .before .before .loop .inv .gap, c .before .before .loop .inv .few)
+
+cast-head-2 : tie.Need-cast-head-2 Inv-loop μ-loop
+cast-head-2 c = omega arith
+
+add-head : tie.Need-add-head Inv-loop μ-loop
+add-head c = record { fits = head-fits _ _ (c .before .before .loop .inv) (c .before .loop-test .taken) _ (omega arith) }
+
+sub-left : tie.Need-sub-left Inv-loop μ-loop
+sub-left c = share-le _ _ (c .before .before .loop .inv .choices) (c .before .loop-test .taken)
+
+loop-less-2 : tie.Need-loop-less-2 Inv-loop μ-loop
+loop-less-2 c = omega arith
+
+loop-again-2 : tie.Need-loop-again-2 Inv-loop μ-loop
+loop-again-2 c = plus-turn _ _ (c .before .before .loop .inv) (c .before .loop-test .taken) (c .if1 .left)
+
+array-write-heads-2 : tie.Need-array-write-heads-2 Inv-loop μ-loop
+array-write-heads-2 c = omega arith
+
+returns : tie.Need-returns Inv-loop μ-loop
+returns c = finished _ _ (c .before .loop .inv) (c .loop-test .left)
+
+pub heads-of-spec : {M : Type 1} → statement M
+heads-of-spec =
+    tie.close
+    (tie.spec
+    Inv-loop
+    μ-loop
+    sub-index
+    cast-index
+    shr-index
+    cast-index-2
+    sub-gaps
+    sub-commas
+    loop-holds
+    mul-with-comma
+    div-with-comma
+    sub-gaps-2
+    cast-heads
+    mul-heads
+    array-write-heads
+    sub-commas-2
+    loop-less
+    loop-again
+    sub-head
+    cast-head
+    shr-head
+    cast-head-2
+    add-head
+    sub-left
+    loop-less-2
+    loop-again-2
+    array-write-heads-2
+    returns)
