@@ -1,12 +1,14 @@
 // Prints what the list program answers. Lines are collected in a buffer, since a call of the system for each would take most of the time.
-use crate::entry::entry_line;
 use crate::entry::first_line;
 use crate::input::Asked;
 use crate::input::degree_in;
 use crate::text::append;
+use crate::text::pair_line;
 use crate::text::refusal_line;
+use pairs::Filled;
 use poly::Count;
 use poly::Degree;
+ghost use Prim.Native.Nat.{_^_, _<_};
 
 // Answers the whole input of the program.
 pub fn answer(fd: i32, input: &[u8]) {
@@ -31,21 +33,66 @@ fn print_list(fd: i32, n: u32) {
     }
 }
 
-fn print_entries(fd: i32, n: u32, count: u64) {
+fn print_entries(fd: i32, n: u32, count: u64)
+    requires { ⌜ count < 2 ^ 63 ⌝ }
+{
     let mut buffer = io::large_buffer();
     let mut used: usize = 0;
     let mut position: u64 = 0;
     while position < count {
-        used = add_entry(fd, n, position, &mut buffer, used);
-        position += 1;
+        used = add_block(fd, n, position, &mut buffer, used);
+        position += 256;
     }
     flush_all(fd, &buffer, used);
 }
 
-// The line of a position, behind the `used` bytes of the buffer. It gives how many are used then.
-fn add_entry(fd: i32, n: u32, position: u64, buffer: &mut [u8; 65536], used: usize) -> usize {
+// The lines of 256 positions, or as many as there are, behind the `used` bytes of the buffer. It gives how many are used then.
+fn add_block(fd: i32, n: u32, position: u64, buffer: &mut [u8; 65536], used: usize) -> usize
+    requires { ⌜ position < 2 ^ 63 ⌝ }
+{
+    let mut codes = [0u32; 512];
+    match pairs::pairs_from(n, position, &mut codes) {
+        Filled::Refused(_) => used,
+        Filled::Pairs(many) => add_pairs(fd, position, many, &codes, buffer, used),
+    }
+}
+
+fn add_pairs(
+    fd: i32,
+    position: u64,
+    many: usize,
+    codes: &[u32; 512],
+    buffer: &mut [u8; 65536],
+    used: usize,
+) -> usize
+    requires { ⌜ position < 2 ^ 63 ⌝ }
+{
+    let mut next = used;
+    for i in 0..256usize {
+        if i < many {
+            next = add_pair(fd, position, i, codes, buffer, next);
+        }
+    }
+    next
+}
+
+fn add_pair(
+    fd: i32,
+    position: u64,
+    i: usize,
+    codes: &[u32; 512],
+    buffer: &mut [u8; 65536],
+    used: usize,
+) -> usize
+    requires { ⌜ (position < 2 ^ 63) × (i < 256) ⌝ }
+{
     let mut line = [0u8; 64];
-    let size = entry_line(n, position, &mut line);
+    let size = pair_line(
+        position + i as u64,
+        codes[2 * i],
+        codes[2 * i + 1],
+        &mut line,
+    );
     add(fd, buffer, used, &line[..size])
 }
 

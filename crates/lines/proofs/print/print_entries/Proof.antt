@@ -1,11 +1,11 @@
--- `print_entries` ends: its loop counts to the length of the list.
-use Prim.Native.Nat.{_-_, _≤_}
+-- `print_entries` ends: its loop counts up to the length of the list.
+use Prim.Native.Nat.{_+_, _-_, _≤_}
 use borrow.Author.Needs.{needs}
 use Rattle.lines.proofs.print.print_entries.Statement.{statement}
 use Rattle.lines.proofs.print.print_entries.Tie as tie
 
 abbrev Inv-loop : tie.InvT-loop
-Inv-loop fd n count buffer₀ used₀ position₀ buffer used position = position ≤ count
+Inv-loop fd n count buffer₀ used₀ position₀ buffer used position = position ≤ count + 256
 
 abbrev μ-loop : tie.MeasureT-loop
 μ-loop fd n count buffer₀ used₀ position₀ buffer used position = count - position
@@ -16,8 +16,8 @@ large-buffer-requires c κs = search needs
 loop-holds : tie.Need-loop-holds Inv-loop μ-loop
 loop-holds c = search needs
 
-add-entry-requires : tie.Need-add-entry-requires Inv-loop μ-loop
-add-entry-requires c κs = search needs
+add-block-requires : tie.Need-add-block-requires Inv-loop μ-loop
+add-block-requires c κs = search needs
 
 add-position : tie.Need-add-position Inv-loop μ-loop
 add-position c = search needs
@@ -42,7 +42,7 @@ print-entries-spec =
     μ-loop
     large-buffer-requires
     loop-holds
-    add-entry-requires
+    add-block-requires
     add-position
     loop-less
     loop-again
