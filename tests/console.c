@@ -1,6 +1,6 @@
 /*
- * Every function of dinnowell.h against tests/reference.h, on random arguments, valid and damaged. Whatever a call is lent has exactly the
- * size that the call is told, and guard bytes around it; after each call every byte of it is compared.
+ * Every function of dinnowell.h against tests/reference.h, on random arguments, valid and damaged. Whatever a call is lent there has
+ * exactly the size that the call is told, and guard bytes around it; after each call every byte of it is compared.
  */
 #include "dinnowell.h"
 #include "reference.h"
@@ -8,6 +8,20 @@
 #include <inttypes.h>
 #include <stdio.h>
 #include <stdlib.h>
+
+/* The header's names are document 01's numbers: the rest of this file, and reference.h, speak in numbers. */
+#ifdef __cplusplus
+#define CHECK(condition) static_assert(condition, #condition)
+#else
+#define CHECK(condition) _Static_assert(condition, #condition)
+#endif
+CHECK(DW_SERVED == 0 && DW_SPENT == 255);
+CHECK(DW_REFUSED_DEGREE_RANGE == 1 && DW_REFUSED_POSITION_RANGE == 2 && DW_REFUSED_WALK_RECORD == 3 && DW_REFUSED_SLICE_LENGTH == 4);
+CHECK(DW_REFUSED_SITE_RANGE == 5 && DW_REFUSED_CODE_DEGREE == 6 && DW_REFUSED_CONSTANT_TERM == 7 && DW_REFUSED_COMMON_FACTOR == 8);
+CHECK(DW_REFUSED_FILE_ENDS == 9 && DW_REFUSED_NUMBER_FORM == 10 && DW_REFUSED_VERSION == 11 && DW_REFUSED_SHEET_DEGREE == 12);
+CHECK(DW_REFUSED_LEVEL_RANGE == 13 && DW_REFUSED_LEVEL_ORDER == 14 && DW_REFUSED_NAME_LENGTH == 15 && DW_REFUSED_NAME_BYTE == 16);
+CHECK(DW_REFUSED_TRAILING_BYTES == 17);
+CHECK(DW_CHAIN_ROOM == 32 && DW_LEVELS_ROOM == 64 && DW_SHEET_ROOM == 8192 && DW_FILE_ROOM == 429 && DW_NAME_ROOM == 40);
 
 enum { SEED = 20261115, GUARD = 64, LARGEST = 1 << 14, SLOTS = 8 };
 
@@ -156,6 +170,23 @@ static void try_pair_at(void)
     count(dw_pair_at(n, position, to_f, to_g), want, "dw_pair_at");
     came_u32(0, want, f, "dw_pair_at: f");
     came_u32(1, want, g, "dw_pair_at: g");
+}
+
+static void try_pairs_from(void)
+{
+    uint32_t n = some_degree(1, draw(2) ? 5 : 31), codes[96], room = draw(16) ? 2 + draw(94) : draw(3);
+    uint64_t length = out_of_range(n) ? 0 : ref_length(n);
+    uint64_t position = length && draw(16) ? draw64() % length : draw(4) ? length + draw(2) : draw64();
+    if (length && draw(4) == 0)
+        position = length - 1 - draw(64) % length;
+    uint32_t want = out_of_range(n) ? 1 : position >= length ? 2 : room < 2 ? 4 : 0;
+    size_t many = 0;
+    for (; want == 0 && many < room / 2 && position + many < length; many++)
+        ref_pair(n, position + many, &codes[2 * many], &codes[2 * many + 1]);
+    uint32_t *out = (uint32_t *)lend(0, 4 * room);
+    count(dw_pairs_from(n, position, out, room, lend_size(1)), want, "dw_pairs_from");
+    came_back(0, codes, 8 * many, "dw_pairs_from: codes");
+    came_size(1, want, many, "dw_pairs_from: count");
 }
 
 /* The position is right if the pair there is the one asked for: no pair stands twice. */
@@ -449,6 +480,7 @@ int main(int argc, char **argv)
     part("longest file", longest_file, 1, 15, 15, 0);
     part("dw_length", try_length, 100 * scale, 1, 1, 0);
     part("dw_pair_at", try_pair_at, 300 * scale, 1, 2, 0);
+    part("dw_pairs_from", try_pairs_from, 50 * scale, 1, 2, four);
     part("dw_position_of", try_position_of, 300 * scale, 6, 8, 1u << 1);
     part("dw_chain", try_chain, 300 * scale, 6, 7, 1u << 1 | four);
     part("dw_site", try_site, 300 * scale, 5, 7, 1u << 1);

@@ -1,6 +1,7 @@
 // The library's calls for C. The return value is 0 for served, document 01's number for refused and 255 for spent. What stands behind a
 // pointer changes only where the call is served.
 use euclid::Chained;
+use pairs::Filled;
 use pairs::Found;
 use pairs::Place;
 use poly::Count;
@@ -17,7 +18,7 @@ ghost use lib.ListN.{length};
 ghost use Rattle.console.specs.Status.{status, value};
 ghost use Rattle.poly.specs.Replies.{lengthReply};
 ghost use Rattle.euclid.specs.Replies.{chainReply, chainContent};
-ghost use Rattle.pairs.specs.Replies.{pairAtReply, positionReply};
+ghost use Rattle.pairs.specs.Replies.{pairAtReply, fromReply, fromContent, positionReply};
 ghost use Rattle.squares.specs.Replies.{siteReply, sheetReply, sheetBytes};
 ghost use Rattle.trial.specs.Answers.{trialFrom};
 ghost use Rattle.walk.specs.Walks.{nextReply};
@@ -55,6 +56,23 @@ pub extern "C" fn dw_pair_at(n: u32, position: u64, f: &mut u32, g: &mut u32) ->
         Found::Codes(first, second) => {
             *f = first;
             *g = second;
+            0
+        }
+    }
+}
+
+// The pairs from a position of the list of degree n on, f and g in turn, as many as fit into the slice; with their count.
+#[no_mangle]
+pub extern "C" fn dw_pairs_from(n: u32, position: u64, out: &mut [u32], count: &mut usize) -> u32
+    ensures { λ r. ⌜ r ≡ status (fromReply n position (length (now (out .entry)))) ⌝ }
+    ensures { λ _. ⌜ now (out .exit) ≡ fromContent n position (now (out .entry)) ⌝ }
+    ensures { λ _. ⌜ now (count .exit) ≡ value 0 (fromReply n position (length (now (out .entry)))) (now (count .entry)) ⌝ }
+{
+    let answer = pairs::pairs_from(n, position, out);
+    match answer {
+        Filled::Refused(refusal) => refusal.number(),
+        Filled::Pairs(written) => {
+            *count = written;
             0
         }
     }
