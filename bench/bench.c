@@ -1,0 +1,481 @@
+/*
+ * Times the library's calls beside plain C of the same jobs, and prints the tables. All inputs are prepared before the clock starts; inputs
+ * and results stay in the same memory, so that caches are warm. In each round the library and the plain C work on the same inputs, one
+ * after the other, so that load on the machine hits both; a line shows the medians of the rounds. Before a job is timed, both answer each
+ * of its inputs and the answers are compared, every byte of them. The answers are global memory, so that no call can be left out.
+ */
+#define _POSIX_C_SOURCE 199309L
+#include "lists.h"
+
+#include <inttypes.h>
+#include <stdio.h>
+#include <stdlib.h>
+#include <time.h>
+
+enum { ROUNDS = 9, INPUTS = 32768, TRIALS = 1024, LIST_DEGREE = 11, SHEET_DEGREE = 6, SIDES = 2, LIST_PAIRS = 699050 };
+
+enum { LIBRARY, PLAIN };
+
+/* How many times the plain C a single call may take. */
+static const double goal = 1.3;
+
+/* An input of any job: a position, a pair, a site. */
+typedef struct Input {
+    uint64_t position;
+    uint32_t f, g, row, col;
+} Input;
+
+/* A trial, and its file. */
+typedef struct Trial {
+    uint32_t f, g;
+    uint16_t powers[64], forces[64];
+    uint8_t name[40], file[512];
+    size_t name_length, length;
+} Trial;
+
+/* What a call answers, and the memory that it is lent. */
+typedef struct Answer {
+    uint32_t status, degree, codes[2], divisor, quotients[DW_CHAIN_ROOM];
+    uint64_t position;
+    size_t count, offset;
+    uint16_t powers[DW_LEVELS_ROOM], forces[DW_LEVELS_ROOM];
+    uint8_t bytes[DW_SHEET_ROOM];
+} Answer;
+
+static uint32_t degree;
+static Input inputs[INPUTS];
+static Trial trials[TRIALS];
+Answer answers[SIDES];
+static uint32_t list[2 * LIST_PAIRS], shuffled[LIST_PAIRS];
+
+static uint64_t random_below(uint64_t below)
+{
+    static uint64_t state = 20261115;
+    state ^= state << 13;
+    state ^= state >> 7;
+    state ^= state << 17;
+    return (state >> 3) % below;
+}
+
+static uint32_t random_code(void)
+{
+    return (1u << degree) | (uint32_t)random_below(1u << degree) | 1;
+}
+
+/* All positions of the whole list's degree, in random order. */
+static void shuffle(void)
+{
+    for (uint32_t i = 0; i < LIST_PAIRS; i++) {
+        uint32_t j = (uint32_t)random_below(i + 1);
+        shuffled[i] = shuffled[j];
+        shuffled[j] = i;
+    }
+}
+
+/* Random positions, the pairs that stand there, and random sites. */
+static void prepare_random(void)
+{
+    for (size_t i = 0; i < INPUTS; i++) {
+        Input *in = &inputs[i];
+        in->position = random_below(plain_first[degree][degree + 1]);
+        plain_pair(degree, in->position, &in->f, &in->g);
+        in->row = (uint32_t)random_below(1u << degree);
+        in->col = (uint32_t)random_below(1u << degree);
+    }
+}
+
+/* Positions that go up one by one, from the middle of the list. */
+static void prepare_rising(void)
+{
+    uint64_t length = plain_first[degree][degree + 1];
+    for (size_t i = 0; i < INPUTS; i++)
+        inputs[i].position = (length / 2 + i) % length;
+}
+
+/* Two random odd codes, with or without a common factor. */
+static void prepare_codes(void)
+{
+    for (size_t i = 0; i < INPUTS; i++) {
+        inputs[i].f = random_code();
+        inputs[i].g = random_code();
+    }
+}
+
+static void random_levels(uint16_t *levels)
+{
+    uint32_t level = 0;
+    for (size_t i = 0; i < 64; i++)
+        levels[i] = (uint16_t)(level += 1 + (uint32_t)random_below(99));
+}
+
+/* Random trials: levels in steps of 1 to 99, names of 8 to 40 letters. */
+static void prepare_trials(void)
+{
+    prepare_random();
+    for (size_t i = 0; i < TRIALS; i++) {
+        Trial *t = &trials[i];
+        t->f = inputs[i].f;
+        t->g = inputs[i].g;
+        random_levels(t->powers);
+        random_levels(t->forces);
+        t->name_length = 8 + random_below(33);
+        memset(t->name, 'a' + (int)(i % 26), t->name_length);
+        plain_write(degree, t->f, t->g, t->powers, 64, t->forces, 64, t->name, t->name_length, t->file, sizeof t->file, &t->length);
+    }
+}
+
+/* The calls of both sides, and for each job a loop over a range of the inputs. */
+static uint32_t (*const pair_at[SIDES])(uint32_t, uint64_t, uint32_t *, uint32_t *) = {dw_pair_at, plain_pair_at};
+static uint32_t (*const position_of[SIDES])(uint32_t, uint32_t, uint32_t, uint64_t *) = {dw_position_of, plain_position_of};
+static uint32_t (*const chain[SIDES])(uint32_t, uint32_t, uint32_t, uint32_t *, size_t, size_t *, uint32_t *) = {dw_chain, plain_chain};
+static uint32_t (*const draw[SIDES])(dw_walk *, uint32_t *, uint32_t *) = {dw_draw, plain_draw};
+static uint32_t (*const site[SIDES])(uint32_t, uint32_t, uint32_t, uint32_t, uint32_t, uint32_t *, uint32_t *) = {dw_site, plain_site};
+static uint32_t (*const sheet[SIDES])(uint32_t, uint32_t, uint32_t, uint8_t *, size_t) = {dw_sheet, plain_sheet};
+static uint32_t (*const read_file[SIDES])(const uint8_t *, size_t, uint16_t *, size_t, uint16_t *, size_t, uint32_t *, uint32_t *,
+                                          uint32_t *, size_t *, size_t *) = {dw_read, plain_read};
+static uint32_t (*const write_file[SIDES])(uint32_t, uint32_t, uint32_t, const uint16_t *, size_t, const uint16_t *, size_t,
+                                           const uint8_t *, size_t, uint8_t *, size_t, size_t *) = {dw_write, plain_write};
+
+static void run_pair_at(int side, size_t from, size_t to)
+{
+    Answer *a = &answers[side];
+    for (size_t i = from; i < to; i++)
+        a->status = pair_at[side](degree, inputs[i].position, &a->codes[0], &a->codes[1]);
+}
+
+static void run_position_of(int side, size_t from, size_t to)
+{
+    Answer *a = &answers[side];
+    for (size_t i = from; i < to; i++)
+        a->status = position_of[side](degree, inputs[i].f, inputs[i].g, &a->position);
+}
+
+static void run_chain(int side, size_t from, size_t to)
+{
+    Answer *a = &answers[side];
+    for (size_t i = from; i < to; i++)
+        a->status = chain[side](degree, inputs[i].f, inputs[i].g, a->quotients, DW_CHAIN_ROOM, &a->count, &a->divisor);
+}
+
+/* One record is lent to each draw; behind the list's end it starts anew. */
+static void run_draw(int side, size_t from, size_t to)
+{
+    Answer *a = &answers[side];
+    dw_walk walk = {degree, inputs[from].position};
+    for (size_t i = from; i < to; i++)
+        if ((a->status = draw[side](&walk, &a->codes[0], &a->codes[1])) == DW_SPENT)
+            walk.position = 0;
+    a->position = walk.position;
+}
+
+static void run_site(int side, size_t from, size_t to)
+{
+    Answer *a = &answers[side];
+    for (size_t i = from; i < to; i++)
+        a->status = site[side](degree, inputs[i].f, inputs[i].g, inputs[i].row, inputs[i].col, &a->codes[0], &a->codes[1]);
+}
+
+static void run_sheet(int side, size_t from, size_t to)
+{
+    Answer *a = &answers[side];
+    for (size_t i = from; i < to; i++)
+        a->status = sheet[side](degree, inputs[i].f, inputs[i].g, a->bytes, sizeof a->bytes);
+}
+
+static void run_read(int side, size_t from, size_t to)
+{
+    Answer *a = &answers[side];
+    for (size_t i = from; i < to; i++)
+        a->status = read_file[side](trials[i].file, trials[i].length, a->powers, DW_LEVELS_ROOM, a->forces, DW_LEVELS_ROOM, &a->degree,
+                                    &a->codes[0], &a->codes[1], &a->offset, &a->count);
+}
+
+static void run_write(int side, size_t from, size_t to)
+{
+    Answer *a = &answers[side];
+    for (size_t i = from; i < to; i++) {
+        const Trial *t = &trials[i];
+        a->status = write_file[side](degree, t->f, t->g, t->powers, 64, t->forces, 64, t->name, t->name_length, a->bytes,
+                                     sizeof a->bytes, &a->count);
+    }
+}
+
+/* A job: how its inputs are made and run, how many there are, and whether it is timed at degrees 4, 11, 21, 31 or at a sheet's. */
+typedef struct Job {
+    const char *name;
+    void (*prepare)(void);
+    void (*run)(int side, size_t from, size_t to);
+    size_t count;
+    int sheets;
+} Job;
+
+static const Job jobs[] = {
+    {"pair at, random", prepare_random, run_pair_at, INPUTS, 0},
+    {"pair at, rising", prepare_rising, run_pair_at, INPUTS, 0},
+    {"position of", prepare_random, run_position_of, INPUTS, 0},
+    {"chain", prepare_codes, run_chain, INPUTS, 0},
+    {"draw", prepare_rising, run_draw, INPUTS, 0},
+    {"site", prepare_random, run_site, INPUTS, 0},
+    {"sheet", prepare_random, run_sheet, TRIALS, 1},
+    {"read", prepare_trials, run_read, TRIALS, 1},
+    {"write", prepare_trials, run_write, TRIALS, 1},
+};
+
+/* What the rounds gave: medians in nanoseconds, the median of the rounds' ratios, and how far the middle half of the rounds
+ * was from it, as a part of it. */
+typedef struct Line {
+    double library, plain, ratio, spread;
+} Line;
+
+static double now(void)
+{
+    struct timespec t;
+    clock_gettime(CLOCK_MONOTONIC, &t);
+    return 1e9 * (double)t.tv_sec + (double)t.tv_nsec;
+}
+
+static int by_size(const void *a, const void *b)
+{
+    double x = *(const double *)a, y = *(const double *)b;
+    return (x > y) - (x < y);
+}
+
+/* Sorts the values of the rounds and gives the middle one. */
+static double median(double *values)
+{
+    qsort(values, ROUNDS, sizeof *values, by_size);
+    return values[ROUNDS / 2];
+}
+
+static void stop(const char *what)
+{
+    printf("%s, degree %" PRIu32 ": the library and the plain C differ\n", what, degree);
+    exit(1);
+}
+
+/* Both sides on every input, each over the same bytes. */
+static void compare(const Job *job)
+{
+    for (size_t i = 0; i < job->count; i++) {
+        memset(answers, 165, sizeof answers);
+        job->run(LIBRARY, i, i + 1);
+        job->run(PLAIN, i, i + 1);
+        if (answers[LIBRARY].status != DW_SERVED || memcmp(&answers[LIBRARY], &answers[PLAIN], sizeof(Answer)) != 0)
+            stop(job->name);
+    }
+}
+
+static double time_side(const Job *job, int side)
+{
+    double begin = now();
+    job->run(side, 0, job->count);
+    return (now() - begin) / (double)job->count;
+}
+
+static Line time_job(const Job *job)
+{
+    double times[SIDES][ROUNDS], ratios[ROUNDS];
+    for (int round = 0; round < ROUNDS; round++) {
+        times[LIBRARY][round] = time_side(job, LIBRARY);
+        times[PLAIN][round] = time_side(job, PLAIN);
+        ratios[round] = times[LIBRARY][round] / times[PLAIN][round];
+    }
+    Line line = {median(times[LIBRARY]), median(times[PLAIN]), median(ratios), 0};
+    double below = line.ratio - ratios[ROUNDS / 4], above = ratios[ROUNDS - 1 - ROUNDS / 4] - line.ratio;
+    line.spread = (below > above ? below : above) / line.ratio;
+    return line;
+}
+
+/* Compares, times and prints a job at a degree. */
+static Line show_line(const Job *job, uint32_t n)
+{
+    degree = n;
+    job->prepare();
+    compare(job);
+    Line line = time_job(job);
+    printf("| %s | %" PRIu32 " | %.1f | %.1f | %.2f |\n", job->name, n, line.library, line.plain, line.ratio);
+    return line;
+}
+
+typedef size_t List(uint32_t n, uint32_t *out);
+
+/* A way to list the pairs of a degree: whether it keeps the list's order, and what a pair costs by it. */
+typedef struct Way {
+    const char *name;
+    List *list;
+    int ordered;
+    double cost;
+} Way;
+
+/* The ways through the library and through the plain C beside it. */
+static size_t by_library(uint32_t n, uint32_t *out)
+{
+    return list_rising(dw_pair_at, n, out);
+}
+
+static size_t by_library_shuffled(uint32_t n, uint32_t *out)
+{
+    return list_shuffled(dw_pair_at, n, shuffled, LIST_PAIRS, out);
+}
+
+static size_t by_plain(uint32_t n, uint32_t *out)
+{
+    return list_rising(plain_pair_at, n, out);
+}
+
+static size_t by_plain_shuffled(uint32_t n, uint32_t *out)
+{
+    return list_shuffled(plain_pair_at, n, shuffled, LIST_PAIRS, out);
+}
+
+#ifdef PAIRS_FROM
+static size_t by_pairs_from(uint32_t n, uint32_t *out)
+{
+    size_t pairs = 0;
+    dw_pairs_from(n, 0, out, 2 * LIST_PAIRS, &pairs);
+    return pairs;
+}
+#endif
+#ifdef NTL
+size_t filter_ntl(uint32_t n, uint32_t *out);
+#endif
+#ifdef FLINT
+size_t filter_flint(uint32_t n, uint32_t *out);
+#endif
+
+static Way ways[] = {
+    {"filter by Euclid, plain C", filter_c, 0, 0},
+#ifdef NTL
+    {"filter by NTL", filter_ntl, 0, 0},
+#endif
+#ifdef FLINT
+    {"filter by FLINT", filter_flint, 0, 0},
+#endif
+    {"dw_pair_at, positions in random order", by_library_shuffled, 0, 0},
+    {"dw_pair_at, rising", by_library, 1, 0},
+    {"plain pair at, positions in random order", by_plain_shuffled, 0, 0},
+    {"plain pair at, rising", by_plain, 1, 0},
+#ifdef PAIRS_FROM
+    {"dw_pairs_from, one call", by_pairs_from, 1, 0},
+#endif
+    {"nested loops in the list's order, plain C", list_in_order, 1, 0},
+};
+enum { WAYS = sizeof ways / sizeof *ways };
+
+/* A checksum of the list; where the order is to count, of each pair with its position. */
+static uint64_t checksum(size_t pairs, int ordered)
+{
+    uint64_t sum = 0;
+    for (size_t i = 0; i < pairs; i++)
+        sum += (((uint64_t)list[2 * i] << 32) + list[2 * i + 1] + (ordered ? i << 13 : 0)) * UINT64_C(0x9e3779b97f4a7c15) >> 20;
+    return sum;
+}
+
+/* Each way's list against the one by positions. */
+static void compare_lists(void)
+{
+    degree = LIST_DEGREE;
+    for (int way = 0; way < WAYS; way++) {
+        int ordered = ways[way].ordered;
+        uint64_t want = checksum(by_plain(degree, list), ordered);
+        memset(list, 0, sizeof list);
+        if (checksum(ways[way].list(degree, list), ordered) != want)
+            stop(ways[way].name);
+    }
+}
+
+/* The whole list by each way in turn, round by round. */
+static void time_lists(void)
+{
+    static double times[WAYS][ROUNDS];
+    for (int turn = 0; turn < ROUNDS * WAYS; turn++) {
+        double begin = now();
+        ways[turn % WAYS].list(LIST_DEGREE, list);
+        times[turn % WAYS][turn / WAYS] = (now() - begin) / LIST_PAIRS;
+    }
+    for (int way = 0; way < WAYS; way++)
+        ways[way].cost = median(times[way]);
+}
+
+static double cost_of(List *by)
+{
+    int way = 0;
+    while (ways[way].list != by)
+        way++;
+    return ways[way].cost;
+}
+
+static void show_goal(const char *what, double value, double limit)
+{
+    printf("- %s: %.2f, ", what, value);
+    if (value <= limit)
+        printf("met\n");
+    else
+        printf("missed by %.0f %%\n", 100 * (value / limit - 1));
+}
+
+/* What is kept of a job's lines: the worst ratio and the widest spread. */
+typedef struct Summary {
+    double worst, spread;
+} Summary;
+
+/* A job at all of its degrees. */
+static Summary show_job(const Job *job)
+{
+    static const uint32_t degrees[] = {4, LIST_DEGREE, 21, 31};
+    Summary s = {0, 0};
+    for (int i = 0; i < (job->sheets ? 1 : 4); i++) {
+        Line line = show_line(job, job->sheets ? SHEET_DEGREE : degrees[i]);
+        s.worst = line.ratio > s.worst ? line.ratio : s.worst;
+        s.spread = line.spread > s.spread ? line.spread : s.spread;
+    }
+    return s;
+}
+
+enum { JOBS = sizeof jobs / sizeof *jobs };
+
+static void show_jobs(Summary *summaries)
+{
+    double spread = 0;
+    printf("| job | degree | library ns | plain C ns | ratio |\n|---|---|---|---|---|\n");
+    for (int job = 0; job < JOBS; job++) {
+        summaries[job] = show_job(&jobs[job]);
+        spread = summaries[job].spread > spread ? summaries[job].spread : spread;
+    }
+    printf("\nMedians of %d rounds, inputs prepared beforehand, caches warm. In each line the middle half of the rounds had ratios\n"
+           "within %.0f %% of the one shown.\n", ROUNDS, 100 * spread);
+}
+
+static void show_lists(void)
+{
+    printf("\n| whole list of degree %d, into warm memory | ns a listed pair | to the C filter |\n|---|---|---|\n", LIST_DEGREE);
+    for (int way = 0; way < WAYS; way++)
+        printf("| %s | %.1f | %.2f |\n", ways[way].name, ways[way].cost, ways[way].cost / cost_of(filter_c));
+}
+
+static void show_goals(const Summary *summaries)
+{
+    printf("\nGoal: a call takes at most %.1f times the plain C of its job. The worst ratio:\n\n", goal);
+    for (int job = 0; job < JOBS; job++)
+        show_goal(jobs[job].name, summaries[job].worst, goal);
+    printf("\nGoal: a pair at a position of degree %d costs no more than one pair that the C filter lists. The ratio:\n\n", LIST_DEGREE);
+    show_goal("random order", cost_of(by_library_shuffled) / cost_of(filter_c), 1);
+    show_goal("rising", cost_of(by_library) / cost_of(filter_c), 1);
+#ifdef PAIRS_FROM
+    printf("\nGoal: dw_pairs_from takes at most %.1f times the nested loops in plain C. The ratio:\n\n", goal);
+    show_goal("whole list", cost_of(by_pairs_from) / cost_of(list_in_order), goal);
+#endif
+}
+
+int main(void)
+{
+    static Summary summaries[JOBS];
+    plain_tables();
+    show_jobs(summaries);
+    shuffle();
+    compare_lists();
+    time_lists();
+    show_lists();
+    show_goals(summaries);
+    return 0;
+}

@@ -1,0 +1,467 @@
+/*
+ * The library's calls once more, in plain C written for speed: what a ratio of the benchmark is taken against. Each has the parameters and
+ * the answers of the call of the same name in dinnowell.h. plain_tables fills the tables and is called once, before everything else.
+ */
+#ifndef PLAIN_H
+#define PLAIN_H
+
+#include "dinnowell.h"
+#include <string.h>
+
+/* Calls are kept as calls, as the library's are. */
+#define PLAIN_CALL static __attribute__((noinline)) uint32_t
+
+/* The states of the words, and where a letter leads from each. */
+enum { PLAIN_10, PLAIN_11, PLAIN_01, PLAIN_STATES };
+static const uint8_t plain_next[PLAIN_STATES][2] = {{PLAIN_01, PLAIN_11}, {PLAIN_11, PLAIN_01}, {PLAIN_10, PLAIN_10}};
+
+static uint32_t plain_compositions[32][32];      /* of n into k parts */
+static uint64_t plain_words[32][PLAIN_STATES];   /* words of so many letters that lead from a state to (1,0) */
+static uint64_t plain_zeros[32][PLAIN_STATES];   /* of those with one letter more, how many begin with 0 */
+static uint64_t plain_first[32][34];             /* by degree n and k: the position of the first pair of k quotients; n + 1: the length */
+
+/* Row m of the tables, from the row before it. */
+static void plain_row(uint32_t m)
+{
+    plain_compositions[0][0] = 1;
+    for (uint32_t k = 1; k <= m; k++)
+        plain_compositions[m][k] = plain_compositions[m - 1][k - 1] + plain_compositions[m - 1][k];
+    for (uint32_t s = 0; s < PLAIN_STATES; s++)
+        plain_words[m][s] = m == 0 ? s == PLAIN_10 : plain_words[m - 1][plain_next[s][0]] + plain_words[m - 1][plain_next[s][1]];
+    for (uint32_t s = 0; s < PLAIN_STATES; s++)
+        plain_zeros[m][s] = plain_words[m][plain_next[s][0]];
+    for (uint32_t k = 2; k <= m; k++)
+        plain_first[m][k + 1] = plain_first[m][k] + ((plain_compositions[m][k] * plain_words[k][PLAIN_10]) << (m - k));
+}
+
+/* Fills the tables. */
+static void plain_tables(void)
+{
+    for (uint32_t m = 0; m < 32; m++)
+        plain_row(m);
+}
+
+/* The degree of a code that is not 0. */
+static inline uint32_t plain_degree(uint32_t code)
+{
+    return 31 - (uint32_t)__builtin_clz(code);
+}
+
+/* What a code of degree n is refused for. */
+static inline uint32_t plain_code(uint32_t n, uint32_t code)
+{
+    return code >> n != 1 ? DW_REFUSED_CODE_DEGREE : code % 2 == 0 ? DW_REFUSED_CONSTANT_TERM : DW_SERVED;
+}
+
+/* The same for two. */
+static inline uint32_t plain_codes(uint32_t n, uint32_t f, uint32_t g)
+{
+    uint32_t why = plain_code(n, f);
+    return why != DW_SERVED ? why : plain_code(n, g);
+}
+
+/* The remainder of a by b, which is not 0, by shifts and leading zeros; the quotient goes to *quotient. */
+static inline uint32_t plain_divide(uint32_t a, uint32_t b, uint32_t *quotient)
+{
+    uint32_t q = 0, d = plain_degree(b);
+    while (a >= 1u << d) {
+        uint32_t shift = plain_degree(a) - d;
+        q |= 1u << shift;
+        a ^= b << shift;
+    }
+    *quotient = q;
+    return a;
+}
+
+/* Whether f and g have no common factor: Euclid's algorithm comes to the remainder 1. */
+static inline int plain_coprime(uint32_t f, uint32_t g)
+{
+    while (g > 1) {
+        uint32_t quotient, rest = plain_divide(f, g, &quotient);
+        f = g;
+        g = rest;
+    }
+    return g == 1;
+}
+
+/* Euclid's quotients, and how many; the last divisor goes to *divisor. */
+static inline size_t plain_quotients(uint32_t f, uint32_t g, uint32_t *quotients, uint32_t *divisor)
+{
+    size_t count = 0;
+    while (g != 0) {
+        uint32_t rest = plain_divide(f, g, &quotients[count++]);
+        f = g;
+        g = rest;
+    }
+    *divisor = f;
+    return count;
+}
+
+PLAIN_CALL plain_chain(uint32_t n, uint32_t f, uint32_t g, uint32_t *quotients, size_t room, size_t *count, uint32_t *divisor)
+{
+    if (n < 1 || n > 31)
+        return DW_REFUSED_DEGREE_RANGE;
+    uint32_t why = plain_codes(n, f, g);
+    if (why != DW_SERVED)
+        return why;
+    if (room < DW_CHAIN_ROOM)
+        return DW_REFUSED_SLICE_LENGTH;
+    *count = plain_quotients(f, g, quotients, divisor);
+    return DW_SERVED;
+}
+
+/* The word of k letters at an index among the kept ones, letter 1 in the highest of k bits; with no branch on a letter. */
+static inline uint32_t plain_word(uint32_t k, uint64_t index)
+{
+    uint32_t word = 0, state = PLAIN_10;
+    while (k-- > 0) {
+        uint64_t zeros = plain_zeros[k][state];
+        uint32_t letter = index >= zeros;
+        index -= zeros & -(uint64_t)letter;
+        word = 2 * word + letter;
+        state = plain_next[state][letter];
+    }
+    return word;
+}
+
+/* What a position stands for: the number k of quotients, the word, and the intermediate bits with the composition's index above them. */
+typedef struct plain_place {
+    uint32_t k, word;
+    uint64_t bits;
+} plain_place;
+
+static inline plain_place plain_seek(uint32_t n, uint64_t position)
+{
+    uint32_t k = 2;
+    while (plain_first[n][k + 1] <= position)
+        k++;
+    uint64_t rest = position - plain_first[n][k], words = plain_words[k][PLAIN_10];
+    return (plain_place){k, plain_word(k, rest % words), rest / words};
+}
+
+/* The pair at a position below the length: one pass over the gaps between n ones. No branch on what a gap is, as none could be foreseen. */
+static inline void plain_pair(uint32_t n, uint64_t position, uint32_t *f, uint32_t *g)
+{
+    plain_place place = plain_seek(n, position);
+    uint32_t index = (uint32_t)(place.bits >> (n - place.k)), commas = place.k - 1, r = 1, s = 0, product = 1;
+    for (uint32_t ones = n - 1; ones > 0; ones--) {
+        uint32_t with_comma = plain_compositions[ones][commas];
+        uint32_t comma = -(uint32_t)(index < with_comma);
+        uint32_t bit = (comma & place.word >> commas) | (~comma & (uint32_t)(place.bits >> ((ones - 1 - commas) & 63)));
+        product = product << 1 ^ (r & -(bit & 1)) ^ (s & comma);
+        s ^= (s ^ r) & comma;
+        r ^= (r ^ product) & comma;
+        index -= with_comma & ~comma;
+        commas += comma;
+    }
+    *g = product << 1 ^ (r & -(place.word & 1)) ^ s;
+    *f = *g ^ r;
+}
+
+/* The same for positions that rise: neighbours have the same gaps, so that the branches are foreseen. */
+static inline void plain_next_pair(uint32_t n, uint64_t position, uint32_t *f, uint32_t *g)
+{
+    plain_place place = plain_seek(n, position);
+    uint32_t index = (uint32_t)(place.bits >> (n - place.k)), commas = place.k - 1, r = 1, s = 0, product = 1;
+    for (uint32_t ones = n - 1; ones > 0; ones--) {
+        uint32_t with_comma = plain_compositions[ones][commas];
+        if (index < with_comma) {
+            product = product << 1 ^ (r & -(place.word >> commas & 1)) ^ s;
+            s = r;
+            r = product;
+            commas--;
+        } else {
+            product = product << 1 ^ (r & -(uint32_t)(place.bits >> (ones - 1 - commas) & 1));
+            index -= with_comma;
+        }
+    }
+    *g = product << 1 ^ (r & -(place.word & 1)) ^ s;
+    *f = *g ^ r;
+}
+
+PLAIN_CALL plain_pair_at(uint32_t n, uint64_t position, uint32_t *f, uint32_t *g)
+{
+    if (n < 1 || n > 31)
+        return DW_REFUSED_DEGREE_RANGE;
+    if (position >= plain_first[n][n + 1])
+        return DW_REFUSED_POSITION_RANGE;
+    plain_pair(n, position, f, g);
+    return DW_SERVED;
+}
+
+PLAIN_CALL plain_draw(dw_walk *walk, uint32_t *f, uint32_t *g)
+{
+    uint32_t n = walk->degree;
+    if (n < 1 || n > 31 || walk->position > plain_first[n][n + 1])
+        return DW_REFUSED_WALK_RECORD;
+    if (walk->position == plain_first[n][n + 1])
+        return DW_SPENT;
+    plain_next_pair(n, walk->position, f, g);
+    walk->position++;
+    return DW_SERVED;
+}
+
+/* The position of k quotients, the last one first. A degree d passes over all compositions of the ones left with a smaller degree first. */
+static inline uint64_t plain_rank(uint32_t n, uint32_t k, const uint32_t *quotients)
+{
+    uint64_t bits = 0, word = 0, composition = 0;
+    uint32_t state = PLAIN_10, ones = n;
+    for (uint32_t left = k; left-- > 0;) {
+        uint32_t q = quotients[left], d = plain_degree(q), letter = q % 2;
+        composition += plain_compositions[ones][left + 1] - plain_compositions[ones - d + 1][left + 1];
+        ones -= d;
+        bits = bits << (d - 1) | (q ^ 1u << d) >> 1;
+        word += plain_zeros[left][state] & -(uint64_t)letter;
+        state = plain_next[state][letter];
+    }
+    return plain_first[n][k] + (composition << (n - k) | bits) * plain_words[k][PLAIN_10] + word;
+}
+
+PLAIN_CALL plain_position_of(uint32_t n, uint32_t f, uint32_t g, uint64_t *position)
+{
+    uint32_t quotients[DW_CHAIN_ROOM], divisor;
+    if (n < 1 || n > 31)
+        return DW_REFUSED_DEGREE_RANGE;
+    uint32_t why = plain_codes(n, f, g);
+    if (why != DW_SERVED)
+        return why;
+    size_t count = plain_quotients(f, g, quotients, &divisor);
+    if (divisor != 1)
+        return DW_REFUSED_COMMON_FACTOR;
+    *position = plain_rank(n, (uint32_t)count - 1, quotients + 1);
+    return DW_SERVED;
+}
+
+/* A symbol is the middle of the product of its code with the line of cells: a sum of shifts, for both codes in one pass. */
+PLAIN_CALL plain_site(uint32_t n, uint32_t f, uint32_t g, uint32_t row, uint32_t col, uint32_t *first, uint32_t *second)
+{
+    if (n < 1 || n > 31)
+        return DW_REFUSED_DEGREE_RANGE;
+    uint32_t why = plain_codes(n, f, g), of_f = 0, of_g = 0;
+    if (why != DW_SERVED)
+        return why;
+    if ((row | col) >> n != 0)
+        return DW_REFUSED_SITE_RANGE;
+    uint64_t line = (uint64_t)row << n | col;
+    for (uint32_t j = 0; j <= n; j++) {
+        uint32_t cells = (uint32_t)(line >> (n - j));
+        of_f ^= cells & -(f >> j & 1);
+        of_g ^= cells & -(g >> j & 1);
+    }
+    *first = of_f & ((1u << n) - 1);
+    *second = of_g & ((1u << n) - 1);
+    return DW_SERVED;
+}
+
+/* What degree and codes of a sheet or a file are refused for. */
+static inline uint32_t plain_head(uint32_t n, uint32_t f, uint32_t g)
+{
+    if (n < 2 || n > 6)
+        return DW_REFUSED_SHEET_DEGREE;
+    uint32_t why = plain_codes(n, f, g);
+    return why != DW_SERVED ? why : !plain_coprime(f, g) ? DW_REFUSED_COMMON_FACTOR : DW_SERVED;
+}
+
+/* Doubles a table of parts: behind the `count` that stand there, the same with `part` added. */
+static inline void plain_double(uint16_t *parts, uint32_t count, uint32_t part)
+{
+    for (uint32_t i = 0; i < count; i++)
+        parts[count + i] = (uint16_t)(parts[i] ^ part);
+}
+
+/* Both symbols, g's in the high byte, of each row in column 0 (down = 0) or of each column in row 0 (down = n). */
+static inline void plain_parts(uint32_t n, uint32_t f, uint32_t g, uint32_t down, uint16_t *parts)
+{
+    uint32_t mask = (1u << n) - 1;
+    parts[0] = 0;
+    for (uint32_t bit = 0; bit < n; bit++)
+        plain_double(parts, 1u << bit, (g << bit >> down & mask) << 8 | (f << bit >> down & mask));
+}
+
+/* One row of a sheet: the row's part added to each column's, four sites at once. */
+static inline void plain_sheet_row(uint8_t *sites, uint32_t order, uint16_t row, const uint16_t *cols)
+{
+    for (uint32_t col = 0; col < order; col += 4) {
+        uint64_t four;
+        memcpy(&four, cols + col, 8);
+        four ^= row * UINT64_C(0x0001000100010001);
+        memcpy(sites + 2 * col, &four, 8);
+    }
+}
+
+PLAIN_CALL plain_sheet(uint32_t n, uint32_t f, uint32_t g, uint8_t *sheet, size_t room)
+{
+    uint16_t rows[64], cols[64];
+    uint32_t why = plain_head(n, f, g);
+    if (why != DW_SERVED)
+        return why;
+    uint32_t order = 1u << n;
+    if (room < 2 * order * order)
+        return DW_REFUSED_SLICE_LENGTH;
+    plain_parts(n, f, g, 0, rows);
+    plain_parts(n, f, g, n, cols);
+    for (uint32_t row = 0; row < order; row++)
+        plain_sheet_row(sheet + 2 * order * row, order, rows[row], cols);
+    return DW_SERVED;
+}
+
+/* The number at *at, which moves behind it. */
+static inline uint32_t plain_number(const uint8_t **at, const uint8_t *end, uint32_t *number)
+{
+    uint64_t sum = 0;
+    for (int shift = 0; shift < 35; shift += 7) {
+        if (*at == end)
+            return DW_REFUSED_FILE_ENDS;
+        uint8_t byte = *(*at)++;
+        sum |= (uint64_t)(byte & 127) << shift;
+        if (byte < 128) {
+            *number = (uint32_t)sum;
+            return (byte == 0 && shift > 0) || sum > UINT32_MAX ? DW_REFUSED_NUMBER_FORM : DW_SERVED;
+        }
+    }
+    return DW_REFUSED_NUMBER_FORM;
+}
+
+/* The fields before the levels. */
+static inline uint32_t plain_read_head(const uint8_t **at, const uint8_t *end, uint32_t *n, uint32_t *f, uint32_t *g)
+{
+    uint32_t version, why;
+    if ((why = plain_number(at, end, &version)) != DW_SERVED)
+        return why;
+    if (version != 1)
+        return DW_REFUSED_VERSION;
+    if ((why = plain_number(at, end, n)) != DW_SERVED)
+        return why;
+    if (*n < 2 || *n > 6)
+        return DW_REFUSED_SHEET_DEGREE;
+    if ((why = plain_number(at, end, f)) != DW_SERVED || (why = plain_code(*n, *f)) != DW_SERVED)
+        return why;
+    if ((why = plain_number(at, end, g)) != DW_SERVED || (why = plain_code(*n, *g)) != DW_SERVED)
+        return why;
+    return !plain_coprime(*f, *g) ? DW_REFUSED_COMMON_FACTOR : DW_SERVED;
+}
+
+/* One list of levels. */
+static inline uint32_t plain_read_levels(const uint8_t **at, const uint8_t *end, uint32_t count, uint16_t *levels)
+{
+    uint32_t least = 0;
+    for (uint32_t i = 0; i < count; i++) {
+        uint32_t level, why = plain_number(at, end, &level);
+        if (why != DW_SERVED)
+            return why;
+        if (level > 65535)
+            return DW_REFUSED_LEVEL_RANGE;
+        if (level < least)
+            return DW_REFUSED_LEVEL_ORDER;
+        levels[i] = (uint16_t)level;
+        least = level + 1;
+    }
+    return DW_SERVED;
+}
+
+/* Whether all bytes are from 32 to 126. */
+static inline int plain_printable(const uint8_t *bytes, size_t size)
+{
+    uint32_t wrong = 0;
+    for (size_t i = 0; i < size; i++)
+        wrong |= (uint8_t)(bytes[i] - 32) > 94;
+    return !wrong;
+}
+
+/* The name's length; the name stands from *at to the end. */
+static inline uint32_t plain_read_name(const uint8_t **at, const uint8_t *end, uint32_t *size)
+{
+    uint32_t why = plain_number(at, end, size);
+    if (why != DW_SERVED)
+        return why;
+    if (*size > 40)
+        return DW_REFUSED_NAME_LENGTH;
+    if ((size_t)(end - *at) < *size)
+        return DW_REFUSED_FILE_ENDS;
+    if (!plain_printable(*at, *size))
+        return DW_REFUSED_NAME_BYTE;
+    return (size_t)(end - *at) > *size ? DW_REFUSED_TRAILING_BYTES : DW_SERVED;
+}
+
+/* The levels are kept aside until the whole file is found right. */
+PLAIN_CALL plain_read(const uint8_t *file, size_t length, uint16_t *powers, size_t powers_room, uint16_t *forces, size_t forces_room,
+                      uint32_t *degree, uint32_t *f, uint32_t *g, size_t *name_offset, size_t *name_length)
+{
+    const uint8_t *at = file, *end = file + length;
+    uint16_t levels[2][DW_LEVELS_ROOM];
+    uint32_t n, code_f, code_g, size, why;
+    if (powers_room < DW_LEVELS_ROOM || forces_room < DW_LEVELS_ROOM)
+        return DW_REFUSED_SLICE_LENGTH;
+    if ((why = plain_read_head(&at, end, &n, &code_f, &code_g)) != DW_SERVED)
+        return why;
+    if ((why = plain_read_levels(&at, end, 1u << n, levels[0])) != DW_SERVED)
+        return why;
+    if ((why = plain_read_levels(&at, end, 1u << n, levels[1])) != DW_SERVED)
+        return why;
+    if ((why = plain_read_name(&at, end, &size)) != DW_SERVED)
+        return why;
+    memcpy(powers, levels[0], sizeof(uint16_t) << n);
+    memcpy(forces, levels[1], sizeof(uint16_t) << n);
+    *degree = n;
+    *f = code_f;
+    *g = code_g;
+    *name_offset = (size_t)(at - file);
+    *name_length = size;
+    return DW_SERVED;
+}
+
+/* Whether levels rise strictly. */
+static inline int plain_rising(const uint16_t *levels, size_t count)
+{
+    uint32_t wrong = 0;
+    for (size_t i = 1; i < count; i++)
+        wrong |= levels[i] <= levels[i - 1];
+    return !wrong;
+}
+
+/* Puts the bytes of a number, and gives the place behind them. */
+static inline uint8_t *plain_put(uint8_t *at, uint32_t number)
+{
+    for (; number >= 128; number >>= 7)
+        *at++ = (uint8_t)(number | 128);
+    *at++ = (uint8_t)number;
+    return at;
+}
+
+/* The same for a list of levels. */
+static inline uint8_t *plain_put_levels(uint8_t *at, const uint16_t *levels, size_t count)
+{
+    for (size_t i = 0; i < count; i++)
+        at = plain_put(at, levels[i]);
+    return at;
+}
+
+/* The file is made aside, where the longest has room, and copied if it fits. */
+PLAIN_CALL plain_write(uint32_t n, uint32_t f, uint32_t g, const uint16_t *powers, size_t powers_count, const uint16_t *forces,
+                       size_t forces_count, const uint8_t *name, size_t name_length, uint8_t *file, size_t room, size_t *length)
+{
+    uint8_t made[4 + 2 * 64 * 3 + 1 + 40], *at = made;
+    uint32_t why = plain_head(n, f, g);
+    if (why != DW_SERVED)
+        return why;
+    if (powers_count != (size_t)1 << n || forces_count != (size_t)1 << n)
+        return DW_REFUSED_SLICE_LENGTH;
+    if (!plain_rising(powers, powers_count) || !plain_rising(forces, forces_count))
+        return DW_REFUSED_LEVEL_ORDER;
+    if (name_length > 40)
+        return DW_REFUSED_NAME_LENGTH;
+    if (!plain_printable(name, name_length))
+        return DW_REFUSED_NAME_BYTE;
+    at = plain_put(plain_put(plain_put(plain_put(at, 1), n), f), g);
+    at = plain_put_levels(plain_put_levels(at, powers, powers_count), forces, forces_count);
+    at = plain_put(at, (uint32_t)name_length);
+    memcpy(at, name, name_length);
+    at += name_length;
+    if ((size_t)(at - made) > room)
+        return DW_REFUSED_SLICE_LENGTH;
+    memcpy(file, made, (size_t)(at - made));
+    *length = (size_t)(at - made);
+    return DW_SERVED;
+}
+
+#endif
