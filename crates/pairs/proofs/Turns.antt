@@ -3,7 +3,6 @@
 use Prim.Native.Nat.{ℕ, zero, suc, _+_, _-_, _*_, _/_, _%_, _^_, _≤_, _<_}
 use native.Mathlib.Nat.{mod-eq-of-lt, mod-le, pow-suc, mul-le-mul-right, div-one, suc-sub-suc, lt-of-lt-of-le}
 use native.Mathlib.Numerals.{sub-one}
-use native.Mathlib.Decide.{decLt}
 use native.Mathlib.Omega.{arith}
 use mathlib.Core.Path.{_≡_, sym, ap, _∙_}
 use mathlib.Core.Bool.{Bool}
@@ -15,7 +14,6 @@ use borrow.Author.Tests.{lt-ltb, le-ltb}
 use Rattle.reply.specs.Reply.{served}
 use Rattle.poly.proofs.Binary.{add-xor, bit-scale}
 use Rattle.euclid.specs.Chain.{Pair}
-use Rattle.pairs.specs.Counts.{choose}
 use Rattle.pairs.specs.Words.{s10, words, number}
 use Rattle.pairs.specs.Sequences.{bit, compositions, block}
 use Rattle.pairs.specs.Pairs.{build}
@@ -23,12 +21,11 @@ use Rattle.pairs.specs.Replies.{pairReply}
 use Rattle.pairs.proofs.Valid.{constant}
 use Rattle.pairs.proofs.Words.{count, wordAt, wordAt-known, listed-words}
 use Rattle.pairs.proofs.Letters.{letters, letters-number}
-use Rattle.pairs.proofs.Binomial.{choose-above}
-use Rattle.pairs.proofs.Compositions.{parts, parts-share, pascal, listed-compositions, compositions-count}
+use Rattle.pairs.proofs.Gaps.{Left, commas-le, share-is, after-plus}
+use Rattle.pairs.proofs.Compositions.{parts, listed-compositions, compositions-count}
 use Rattle.pairs.proofs.Quotients.{bit-constant}
 use Rattle.pairs.proofs.Blocks.{blockSize, listed-block, word-index, composition-index}
 use Rattle.pairs.proofs.PairWalk.{append, shift, pairWalk, walkIn, pairIn, build-walk}
-use Rattle.pairs.proofs.Bounds.{choose-times-lt}
 
 abbrev pair : ℕ → ℕ → Pair
 pair r s = record { f = r; g = s }
@@ -64,19 +61,11 @@ module _ (d product x r : ℕ) (hp : product < 2 ^ d) (hr : r < 2 ^ d) (hx : x <
 pub record Between (n word bits : ℕ) (t : Pair) (index left gaps commas r s product : ℕ) : Type 0 where
   pub few : n ≤ 31
   pub gap : gaps < n
-  pub count : left ≡ choose gaps commas
-  pub inside : index < left
+  pub share : Left gaps commas index left
   pub r-lt : r < 2 ^ (n - gaps)
   pub s-lt : s < 2 ^ (n - gaps)
   pub product-lt : product < 2 ^ (n - gaps)
   pub reaches : pairWalk gaps commas index (bits % 2 ^ (gaps - commas)) (letters (suc commas) word) product (pair r s) ≡ t
-
--- Only as many commas are left as there are gaps.
-commas-le : (gaps commas index : ℕ) → index < choose gaps commas → commas ≤ gaps
-commas-le gaps commas index h = elim (decLt gaps commas) [
-  | yes l ↦ absurd (omega (arith, choose-above gaps commas l))
-  | no l ↦ omega arith
-]
 
 module _ (g i b product : ℕ) (l : Bool) (w : List Bool) (rs : Pair) where
   at-comma : (p : ℕ) → i < parts (suc g) (suc p)
@@ -93,14 +82,8 @@ module _ {n word bits : ℕ} {t : Pair} where
   below-31 : {index left gaps commas r s product : ℕ} → Between n word bits t index left gaps commas r s product → product < 2 ^ 31
   below-31 {gaps = gaps} b = lt-of-lt-of-le (b .product-lt) (pow-mono {i = n - gaps} {j = 31} (omega (arith, b .few)))
 
-  -- The share of the compositions left that have a comma in the next gap.
-  pub share-fits : {index left gaps commas r s product : ℕ} → Between n word bits t index left gaps commas r s product
-      → left * commas < 2 ^ 32
-  share-fits {gaps = gaps} {commas = commas} b = rw (b .count) (choose-times-lt gaps commas (omega (arith, b .few, b .gap)))
-
   pub commas-lt : {index left gaps commas r s product : ℕ} → Between n word bits t index left gaps commas r s product → commas < 31
-  commas-lt {index} {gaps = gaps} {commas = commas} b =
-      omega (arith, commas-le gaps commas index (rw (b .count) at (b .inside)), b .few, b .gap)
+  commas-lt b = omega (arith, commas-le (b .share), b .few, b .gap)
 
   pub digit-fits : {index left gaps commas r s product : ℕ} → Between n word bits t index left gaps commas r s product
       → (x : ℕ) → x < 2 → x * r < 2 ^ 32
@@ -109,9 +92,6 @@ module _ {n word bits : ℕ} {t : Pair} where
       omega (arith, b .r-lt, pow-mono {i = n - gaps} {j = 31} (omega (arith, b .few)))
 
   module _ (g p : ℕ) {index left r s product : ℕ} (b : Between n word bits t index left (suc g) p r s product) where
-    share-is : left * p / suc g ≡ parts (suc g) p
-    share-is = rw (b .count) (sym (parts-share g p))
-
     -- One gap less leaves room for one digit more.
     room : n - g ≡ suc (n - suc g)
     room = omega (arith, b .gap)
@@ -119,39 +99,18 @@ module _ {n word bits : ℕ} {t : Pair} where
     more : 2 ^ (n - suc g) ≤ 2 ^ (n - g)
     more = pow-mono {i = n - suc g} {j = n - g} (omega arith)
 
-    plus-le : left * p / suc g ≤ index → p ≤ g
-    plus-le h = commas-le g p (index - parts (suc g) p) (omega (arith, share-is, b .count, b .inside, pascal (suc g) p))
-
-  -- A comma is one of those left, and a plus leaves enough gaps.
-  pub comma-left : (gaps commas : ℕ) {index left r s product : ℕ} → Between n word bits t index left gaps commas r s product → 0 < gaps
-      → index < left * commas / gaps → 1 ≤ commas
-  comma-left zero commas b pos h = absurd (omega arith)
-  comma-left (suc g) zero b pos h = absurd (omega (arith, share-is g 0 b))
-  comma-left (suc g) (suc p) b pos h = omega arith
-
-  pub plus-left : (gaps commas : ℕ) {index left r s product : ℕ} → Between n word bits t index left gaps commas r s product → 0 < gaps
-      → left * commas / gaps ≤ index → commas ≤ gaps - 1
-  plus-left zero commas b pos h = absurd (omega arith)
-  plus-left (suc g) commas b pos h = rw sub-one (plus-le g commas b h)
-
-  pub share-le : (gaps commas : ℕ) {index left r s product : ℕ} → Between n word bits t index left gaps commas r s product → 0 < gaps
-      → left * commas / gaps ≤ left
-  share-le zero commas b pos = absurd (omega arith)
-  share-le (suc g) commas b pos = omega (arith, share-is g commas b, b .count, pascal (suc g) commas)
-
   pub comma-turn : (gaps commas : ℕ) {index left r s product : ℕ} → Between n word bits t index left gaps commas r s product → 0 < gaps
       → index < left * commas / gaps
       → Between n word bits t index (left * commas / gaps) (gaps - 1) (commas - 1) (finished product (word / 2 ^ commas % 2) r s) r
       (finished product (word / 2 ^ commas % 2) r s)
   comma-turn zero commas b pos h = absurd (omega arith)
-  comma-turn (suc g) zero b pos h = absurd (omega (arith, share-is g 0 b))
+  comma-turn (suc g) zero b pos h = absurd (omega (arith, share-is g 0 (b .share)))
   comma-turn (suc g) (suc p) {index} {left} {r} {s} {product} b pos h =
       rw (sub-one, sub-one)
       (record {
         few = b .few;
         gap = omega (arith, b .gap);
-        count = share-is g (suc p) b;
-        inside = h;
+        share = record { count = share-is g (suc p) (b .share); inside = h };
         r-lt = rw (room g (suc p) b) next-lt;
         s-lt = lt-of-lt-of-le (b .r-lt) (more g (suc p) b);
         product-lt = rw (room g (suc p) b) next-lt;
@@ -160,7 +119,7 @@ module _ {n word bits : ℕ} {t : Pair} where
             (finished-is product x r s (below-31 b) x-lt
             ∙ ap (λ v. shift (append product v r) (pair r s)) (sym (bit-constant (word / 2 ^ suc p))))
             ∙ sym (at-comma g index (bits % 2 ^ (g - p)) product (constant (word / 2 ^ suc p)) (letters (suc p) word) (pair r s) p
-            (rw (share-is g (suc p) b) at h))
+            (rw (share-is g (suc p) (b .share)) at h))
             ∙ rw (suc-sub-suc g p) at (b .reaches);
       })
     where
@@ -183,15 +142,14 @@ module _ {n word bits : ℕ} {t : Pair} where
       (record {
         few = b .few;
         gap = omega (arith, b .gap);
-        count = omega (arith, share-is g p b, b .count, pascal (suc g) p);
-        inside = omega (arith, b .inside);
+        share = after-plus g p (b .share) h;
         r-lt = lt-of-lt-of-le (b .r-lt) (more g p b);
         s-lt = lt-of-lt-of-le (b .s-lt) (more g p b);
         product-lt = rw (room g p b) (grown-lt (n - suc g) product x r (b .product-lt) (b .r-lt) x-lt);
         reaches =
-            rw (share-is g p b, grown-is product x r (below-31 b) x-lt)
+            rw (share-is g p (b .share), grown-is product x r (below-31 b) x-lt)
             (rw (up, mod-mod-pow bits 1 (g - p), field bits 1 (g - p)) at (sym (at-plus g index (bits % 2 ^ (suc g - p)) product
-            (constant (word / 2 ^ p)) (letters p word) (pair r s) p (rw (share-is g p b) at h))
+            (constant (word / 2 ^ p)) (letters p word) (pair r s) p (rw (share-is g p (b .share)) at h))
             ∙ b .reaches));
       })
     where
@@ -202,12 +160,12 @@ module _ {n word bits : ℕ} {t : Pair} where
       x-lt = omega arith
 
       up : suc g - p ≡ 1 + (g - p)
-      up = omega (arith, plus-le g p b h)
+      up = omega (arith, commas-le (after-plus g p (b .share) h))
 
   pub last-turn : (gaps commas : ℕ) {index left r s product : ℕ} → Between n word bits t index left gaps commas r s product → gaps ≤ 0
       → pair (finished product (word % 2) r s) r ≡ t
   last-turn (suc g) commas b h = absurd (omega arith)
-  last-turn zero (suc p) b h = absurd (omega (arith, b .inside, b .count))
+  last-turn zero (suc p) b h = absurd (omega (arith, b .share .inside, b .share .count))
   last-turn zero zero {r = r} {s = s} {product = product} b h =
       finished-is product (word % 2) r s (below-31 b) (omega arith)
       ∙ ap (λ v. shift (append product v r) (pair r s)) (sym (bit-constant word)) ∙ rw div-one at (b .reaches)
@@ -239,8 +197,10 @@ module _ (n k place : ℕ) (two : 2 ≤ k) (le : k ≤ n) (fits : place < length
       record {
         few = few;
         gap = omega arith;
-        count = ec ∙ compositions-count n k (omega arith) (omega arith);
-        inside = rw (ec, listed-compositions n k .long, ew′) (composition-index n k place in-block);
+        share = record {
+          count = ec ∙ compositions-count n k (omega arith) (omega arith);
+          inside = rw (ec, listed-compositions n k .long, ew′) (composition-index n k place in-block);
+        };
         r-lt = rw one (omega arith);
         s-lt = rw one (omega arith);
         product-lt = rw one (omega arith);

@@ -3,16 +3,13 @@ use Prim.Native.Nat.{_-_, _/_, _^_, _<_}
 use native.Mathlib.Nat.{mod-lt}
 use native.Mathlib.Omega.{arith}
 use Rattle.pairs.proofs.PairWalk.{walkIn}
+use Rattle.pairs.proofs.Gaps.{comma-left, plus-left, share-fits, share-le}
 use Rattle.pairs.proofs.Turns.{
   Between,
   first-turn,
   comma-turn,
   plus-turn,
   last-turn,
-  comma-left,
-  plus-left,
-  share-fits,
-  share-le,
   commas-lt,
   digit-fits,
   some-word,
@@ -68,7 +65,7 @@ shr-index : tie.Need-shr-index Inv-loop μ-loop
 shr-index c = omega arith
 
 cast-index-2 : tie.Need-cast-index-2 Inv-loop μ-loop
-cast-index-2 c = record { fits = omega (arith, begins c .inside, c .before .before .fits .count .fits) }
+cast-index-2 c = record { fits = omega (arith, begins c .share .inside, c .before .before .fits .count .fits) }
 
 sub-gaps : tie.Need-sub-gaps Inv-loop μ-loop
 sub-gaps c = omega arith
@@ -80,7 +77,8 @@ loop-holds : tie.Need-loop-holds Inv-loop μ-loop
 loop-holds c = begins c
 
 mul-with-comma : tie.Need-mul-with-comma Inv-loop μ-loop
-mul-with-comma c = record { fits = share-fits (c .before .loop .inv) }
+mul-with-comma c =
+    let b = c .before .loop .inv in record { fits = share-fits (b .share) (omega (arith, b .few, b .gap)) }
 
 div-with-comma : tie.Need-div-with-comma Inv-loop μ-loop
 div-with-comma c = omega arith
@@ -95,7 +93,7 @@ mul-next : tie.Need-mul-next Inv-loop μ-loop
 mul-next c = record { fits = digit-fits (c .before .before .loop .inv) _ (omega arith) }
 
 sub-commas-2 : tie.Need-sub-commas-2 Inv-loop μ-loop
-sub-commas-2 c = comma-left _ _ (c .before .before .loop .inv) (c .before .loop-test .taken) (c .if1 .taken)
+sub-commas-2 c = comma-left _ _ (c .before .before .loop .inv .share) (c .before .loop-test .taken) (c .if1 .taken)
 
 loop-less : tie.Need-loop-less Inv-loop μ-loop
 loop-less c = omega arith
@@ -104,7 +102,7 @@ loop-again : tie.Need-loop-again Inv-loop μ-loop
 loop-again c = comma-turn _ _ (c .before .before .loop .inv) (c .before .loop-test .taken) (c .if1 .taken)
 
 sub-product : tie.Need-sub-product Inv-loop μ-loop
-sub-product c = plus-left _ _ (c .before .before .loop .inv) (c .before .loop-test .taken) (c .if1 .left)
+sub-product c = plus-left _ _ (c .before .before .loop .inv .share) (c .before .loop-test .taken) (c .if1 .left)
 
 cast-product : tie.Need-cast-product Inv-loop μ-loop
 cast-product c = record { fits = omega (arith, c .before .before .loop .inv .gap, c .before .before .loop .inv .few) }
@@ -119,7 +117,7 @@ mul-product : tie.Need-mul-product Inv-loop μ-loop
 mul-product c = record { fits = digit-fits (c .before .before .loop .inv) _ (omega arith) }
 
 sub-left : tie.Need-sub-left Inv-loop μ-loop
-sub-left c = share-le _ _ (c .before .before .loop .inv) (c .before .loop-test .taken)
+sub-left c = share-le _ _ (c .before .before .loop .inv .share) (c .before .loop-test .taken)
 
 loop-less-2 : tie.Need-loop-less-2 Inv-loop μ-loop
 loop-less-2 c = omega arith
