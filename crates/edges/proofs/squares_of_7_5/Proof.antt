@@ -10,25 +10,8 @@ Inv-loop cell₀ cell = cell ≤ 16
 abbrev μ-loop : tie.MeasureT-loop
 μ-loop cell₀ cell = 16 - cell
 
-loop-holds : tie.Need-loop-holds Inv-loop μ-loop
-loop-holds c = search needs
-
-site-requires : tie.Need-site-requires Inv-loop μ-loop
-site-requires c κs = search needs
-
-add-cell : tie.Need-add-cell Inv-loop μ-loop
-add-cell c = search needs
-
-loop-less : tie.Need-loop-less Inv-loop μ-loop
-loop-less c = search needs
-
-loop-again : tie.Need-loop-again Inv-loop μ-loop
-loop-again c = search needs
-
-returns : tie.Need-returns Inv-loop μ-loop
-returns c = search needs
-
 pub squares-of-7-5-spec : {M : Type 1} → statement M
 squares-of-7-5-spec =
     tie.close
-    (tie.spec Inv-loop μ-loop loop-holds site-requires add-cell loop-less loop-again returns)
+    (tie.spec Inv-loop μ-loop (λ c. search needs) (λ c κs. search needs) (λ c. search needs) (λ c. search needs)
+    (λ c. search needs) (λ c. search needs))

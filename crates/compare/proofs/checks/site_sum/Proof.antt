@@ -10,69 +10,24 @@ Inv-loop state₀ sum₀ i₀ state sum i = i ≤ 3000
 abbrev μ-loop : tie.MeasureT-loop
 μ-loop state₀ sum₀ i₀ state sum i = 3000 - i
 
-loop-holds : tie.Need-loop-holds Inv-loop μ-loop
-loop-holds c = search needs
-
-add-n : tie.Need-add-n Inv-loop μ-loop
-add-n c = search needs
-
-odd-code-requires : tie.Need-odd-code-requires Inv-loop μ-loop
-odd-code-requires c κs = search needs
-
-next-requires : tie.Need-next-requires Inv-loop μ-loop
-next-requires c κs = search needs
-
-odd-code-requires-2 : tie.Need-odd-code-requires-2 Inv-loop μ-loop
-odd-code-requires-2 c κs = search needs
-
-next-requires-2 : tie.Need-next-requires-2 Inv-loop μ-loop
-next-requires-2 c κs = search needs
-
-low-bits-requires : tie.Need-low-bits-requires Inv-loop μ-loop
-low-bits-requires c κs = search needs
-
-next-requires-3 : tie.Need-next-requires-3 Inv-loop μ-loop
-next-requires-3 c κs = search needs
-
-low-bits-requires-2 : tie.Need-low-bits-requires-2 Inv-loop μ-loop
-low-bits-requires-2 c κs = search needs
-
-next-requires-4 : tie.Need-next-requires-4 Inv-loop μ-loop
-next-requires-4 c κs = search needs
-
-site-requires : tie.Need-site-requires Inv-loop μ-loop
-site-requires c κs = search needs
-
-add-i : tie.Need-add-i Inv-loop μ-loop
-add-i c = search needs
-
-loop-less : tie.Need-loop-less Inv-loop μ-loop
-loop-less c = search needs
-
-loop-again : tie.Need-loop-again Inv-loop μ-loop
-loop-again c = search needs
-
-returns : tie.Need-returns Inv-loop μ-loop
-returns c = search needs
-
 pub site-sum-spec : {M : Type 1} → statement M
 site-sum-spec =
     tie.close
     (tie.spec
     Inv-loop
     μ-loop
-    loop-holds
-    add-n
-    odd-code-requires
-    next-requires
-    odd-code-requires-2
-    next-requires-2
-    low-bits-requires
-    next-requires-3
-    low-bits-requires-2
-    next-requires-4
-    site-requires
-    add-i
-    loop-less
-    loop-again
-    returns)
+    (λ c. search needs)
+    (λ c. search needs)
+    (λ c κs. search needs)
+    (λ c κs. search needs)
+    (λ c κs. search needs)
+    (λ c κs. search needs)
+    (λ c κs. search needs)
+    (λ c κs. search needs)
+    (λ c κs. search needs)
+    (λ c κs. search needs)
+    (λ c κs. search needs)
+    (λ c. search needs)
+    (λ c. search needs)
+    (λ c. search needs)
+    (λ c. search needs))

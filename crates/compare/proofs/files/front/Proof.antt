@@ -8,14 +8,5 @@ use Rattle.compare.proofs.files.front.Tie as tie
 slice-aggregate-reading : tie.Need-slice-aggregate-reading
 slice-aggregate-reading c = sym (length-take-le _ _ (c .before .if1 .taken))
 
-reading-requires : tie.Need-reading-requires
-reading-requires c κs = search needs
-
-returns : tie.Need-returns
-returns c = search needs
-
-returns-2 : tie.Need-returns-2
-returns-2 c = search needs
-
 pub front-spec : {M : Type 1} → statement M
-front-spec = tie.close (tie.spec slice-aggregate-reading reading-requires returns returns-2)
+front-spec = tie.close (tie.spec slice-aggregate-reading (λ c κs. search needs) (λ c. search needs) (λ c. search needs))

@@ -10,23 +10,6 @@ Inv-loop fd position many codes buffer₀ used next₀ i₀ buffer next i = i �
 abbrev μ-loop : tie.MeasureT-loop
 μ-loop fd position many codes buffer₀ used next₀ i₀ buffer next i = 256 - i
 
-loop-holds : tie.Need-loop-holds Inv-loop μ-loop
-loop-holds c = search needs
-
-add-pair-requires : tie.Need-add-pair-requires Inv-loop μ-loop
-add-pair-requires c κs = search needs
-
-add-i : tie.Need-add-i Inv-loop μ-loop
-add-i c = search needs
-
-loop-less : tie.Need-loop-less Inv-loop μ-loop
-loop-less c = search needs
-
-loop-again : tie.Need-loop-again Inv-loop μ-loop
-loop-again c = search needs
-
-returns : tie.Need-returns Inv-loop μ-loop
-returns c = search needs
-
 pub add-pairs-spec : {M : Type 1} → statement M
-add-pairs-spec = tie.close (tie.spec Inv-loop μ-loop loop-holds add-pair-requires add-i loop-less loop-again returns)
+add-pairs-spec = tie.close (tie.spec Inv-loop μ-loop (λ c. search needs) (λ c κs. search needs) (λ c. search needs) (λ c. search needs)
+    (λ c. search needs) (λ c. search needs))
