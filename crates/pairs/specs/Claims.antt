@@ -3,15 +3,15 @@ use mathlib.Core.Logic.{_↔_}
 use mathlib.Core.List.{[], _∷_, map}
 use mathlib.Core.Path.{_≡_}
 use Prim.Native.Nat.{ℕ, _+_, _-_, _*_, _%_, _^_, _≤_, _<_}
-use lib.ListN.{length}
+use lib.ListN.{length, getD}
 use Rattle.reply.specs.Reply.{served}
 use Rattle.poly.specs.Limits.{listLength}
 use Rattle.euclid.specs.Chain.{Pair}
 use Rattle.pairs.specs.Loops.{numbers}
 use Rattle.pairs.specs.Counts.{sum, choose}
 use Rattle.pairs.specs.Words.{words}
-use Rattle.pairs.specs.Pairs.{pairs, entry, CoprimePair}
-use Rattle.pairs.specs.Replies.{pairAtReply, positionReply}
+use Rattle.pairs.specs.Pairs.{start, pairs, entry, CoprimePair}
+use Rattle.pairs.specs.Replies.{pairAtReply, positionReply, pairsFrom}
 
 -- There are (2^k + 2(-1)^k)/3 kept words of k letters: three times their number is 2^k + 2 for even k, 2^k - 2 for odd k.
 abbrev pub WordsClaim : Type 0
@@ -44,3 +44,8 @@ ListClaim = (n : ℕ) → 1 ≤ n → Complete n
 -- The pair call and the position call undo each other.
 abbrev pub UndoClaim : Type 0
 UndoClaim = (n : ℕ) → 1 ≤ n → n ≤ 31 → (j f g : ℕ) → (pairAtReply n j ≡ served (f ∷ g ∷ [])) ↔ (positionReply n f g ≡ served (j ∷ []))
+
+-- The pairs from a position on are those at the positions from there on.
+abbrev pub FromClaim : Type 0
+FromClaim =
+    (n position room i : ℕ) → i < length (pairsFrom n position room) → getD (pairsFrom n position room) i start ≡ entry n (position + i)
