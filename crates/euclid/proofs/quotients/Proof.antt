@@ -2,7 +2,7 @@
 use mathlib.Core.Bool.{false}
 use mathlib.Core.List.{List, [], _∷_, _++_}
 use mathlib.Core.Path.{_≡_, sym, ap, _∙_}
-use Prim.Native.Nat.{ℕ, _+_, _^_, _≤_, _<_}
+use Prim.Native.Nat.{ℕ, _^_, _≤_, _<_}
 use native.Mathlib.Nat.{le-refl, zero-add}
 use native.Mathlib.Omega.{arith}
 use borrow.Author.Needs.{needs}
@@ -40,13 +40,13 @@ module _ (n f g : ℕ) (out : List ℕ) where
       short l = refuses (rw (degree, passed _ _ (codeCauses n f ++ codeCauses n g) codes, lt-ltb (length out) 32 l))
 
       done : 32 ≤ length out → g < 2 ^ 32
-          → (served ((0 + length qs) ∷ chain 2 f g .divisor ∷ []) ≡ chainReply n f g (length out))
+          → (served (length qs ∷ chain 2 f g .divisor ∷ []) ≡ chainReply n f g (length out))
           × (sets out 0 qs ≡ chainContent n f g out)
       done l fits =
           let e : chainReply n f g (length out) ≡ served (length qs ∷ chain 2 f g .divisor ∷ []) =
           rw (degree, passed _ _ (codeCauses n f ++ codeCauses n g) codes, le-ltb (length out) 32 l) in
           let few : length qs ≤ 32 = chain-length 2 (le-refl 2) inverses-2 f g 32 fits in (
-            rw zero-add (sym e),
+            sym e,
             sets-eq qs out 0 (omega arith) ∙ rw zero-add (sym (ap (λ (r : Reply). after r (qs ++ drop (length qs) out) out) e)),
           )
 
