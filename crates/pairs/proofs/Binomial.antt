@@ -1,6 +1,6 @@
 -- Binomial coefficients by Pascal's rule, and from a neighbour by one product and one exact division, as code computes them (absorption).
-use Prim.Native.Nat.{ℕ, zero, suc, _+_, _-_, _*_, _/_, _<_}
-use native.Mathlib.Nat.{add-mul, mul-suc, zero-mul, mul-div-cancel, mul-add}
+use Prim.Native.Nat.{ℕ, zero, suc, _+_, _-_, _*_, _/_, _%_, _<_}
+use native.Mathlib.Nat.{add-mul, mul-suc, zero-mul, mul-div-cancel, mul-add, mul-mod-left, zero-mod}
 use native.Mathlib.Decide.{decLt}
 use native.Mathlib.Omega.{arith}
 use mathlib.Core.Path.{_≡_, refl, sym, ap}
@@ -33,6 +33,12 @@ absorption (suc n) (suc k) =
 pub choose-down : (n k : ℕ) → choose n k ≡ choose (suc n) (suc k) * suc k / suc n
 choose-down n k = rw absorption (sym (mul-div-cancel (choose n k) (omega arith)))
 
+-- This division and the next have no remainder.
+pub down-whole : (n k : ℕ) → 0 < n → choose n k * k % n ≡ 0
+down-whole zero k pos = absurd (omega arith)
+down-whole (suc n) zero pos = zero-mod (suc n)
+down-whole (suc n) (suc k) pos = rw absorption (mul-mod-left (choose n k) (suc n))
+
 pub neighbours : (n k : ℕ) → choose n k * (n - k) ≡ choose n (suc k) * suc k
 neighbours n k = elim (decLt n k) [
   | yes l ↦ rw (choose-above n k l, choose-above n (suc k) (omega arith), zero-mul (n - k), zero-mul (suc k))
@@ -44,3 +50,6 @@ neighbours n k = elim (decLt n k) [
 -- On to k + 1.
 pub choose-next : (n k : ℕ) → choose n (suc k) ≡ choose n k * (n - k) / suc k
 choose-next n k = rw neighbours (sym (mul-div-cancel (choose n (suc k)) (omega arith)))
+
+pub next-whole : (n k : ℕ) → choose n k * (n - k) % suc k ≡ 0
+next-whole n k = rw neighbours (mul-mod-left (choose n (suc k)) (suc k))

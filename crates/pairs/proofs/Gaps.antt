@@ -1,12 +1,12 @@
 -- The compositions that are left in a walk over the gaps, as code counts them: C(gaps, commas) of them, and of these the share with a comma
 -- in the next gap comes first.
-use Prim.Native.Nat.{ℕ, zero, suc, _-_, _*_, _/_, _^_, _≤_, _<_}
+use Prim.Native.Nat.{ℕ, zero, suc, _-_, _*_, _/_, _%_, _^_, _≤_, _<_}
 use native.Mathlib.Numerals.{sub-one}
 use native.Mathlib.Decide.{decLt}
 use native.Mathlib.Omega.{arith}
 use mathlib.Core.Path.{_≡_, sym}
 use Rattle.pairs.specs.Counts.{choose}
-use Rattle.pairs.proofs.Binomial.{choose-above}
+use Rattle.pairs.proofs.Binomial.{choose-above, down-whole}
 use Rattle.pairs.proofs.Compositions.{parts, parts-share, pascal}
 use Rattle.pairs.proofs.Bounds.{choose-times-lt}
 
@@ -35,6 +35,10 @@ module _ (g p : ℕ) {index left : ℕ} (l : Left (suc g) p index left) where
     count = omega (arith, share-is, l .count, pascal (suc g) p);
     inside = omega (arith, l .inside);
   }
+
+-- The share is a whole number.
+pub share-whole : (gaps commas : ℕ) {index left : ℕ} → Left gaps commas index left → 0 < gaps → left * commas % gaps ≡ 0
+share-whole gaps commas l pos = rw (l .count) (down-whole gaps commas pos)
 
 -- A comma is one of those left, a plus leaves enough gaps, and the share is no more than all.
 pub comma-left : (gaps commas : ℕ) {index left : ℕ} → Left gaps commas index left → 0 < gaps → index < left * commas / gaps → 1 ≤ commas

@@ -9,7 +9,6 @@ use lib.ListN.{length, drop, length-map, length-take}
 use lib.Seq.{getD-take, getD-drop}
 use lib.Pow.{shl-exact}
 use Rattle.euclid.specs.Chain.{Pair}
-use Rattle.pairs.specs.Counts.{choose}
 use Rattle.pairs.specs.Loops.{numbers, each}
 use Rattle.pairs.specs.Words.{words}
 use Rattle.pairs.specs.Sequences.{compositions, block, sequences}
@@ -19,11 +18,10 @@ use Rattle.pairs.specs.Filling.{Written}
 use Rattle.pairs.specs.Claims.{FromClaim}
 use Rattle.pairs.proofs.Loops.{map-each}
 use Rattle.pairs.proofs.Words.{listed-words}
-use Rattle.pairs.proofs.Binomial.{neighbours}
-use Rattle.pairs.proofs.Compositions.{parts, listed-compositions, compositions-count}
+use Rattle.pairs.proofs.Compositions.{parts, listed-compositions}
 use Rattle.pairs.proofs.Blocks.{blockSize, listed-block}
-use Rattle.pairs.proofs.Bounds.{choose-times-lt, blockSize-lt}
-use Rattle.pairs.proofs.Sizes.{parts-lt, parts-two, parts-next}
+use Rattle.pairs.proofs.Bounds.{blockSize-lt}
+use Rattle.pairs.proofs.Sizes.{parts-lt, parts-two, parts-next, next-share}
 use Rattle.pairs.proofs.Written.{joined, skipped, full, same-length}
 
 -- The pairs of k and more quotients.
@@ -63,17 +61,11 @@ module _ {n position k count skip done : ℕ} {old out : List ℕ} (going : Goin
   stops-done h = going .completes out done (rw (no-block n k h) (skipped (omega arith)))
 
   module _ (le : k ≤ n) (small : n ≤ 31) where
-    parts-are : count ≡ choose (n - 1) (k - 1)
-    parts-are = going .parts ∙ compositions-count n k (omega (arith, going .low)) (omega (arith, going .low))
-
-    pub product-fits : count * (n - k) < 2 ^ 32
-    product-fits =
-        let down : n - 1 - (k - 1) ≡ n - k = omega (arith, going .low) in
-        let up : suc (k - 1) ≡ k = omega (arith, going .low) in
-        rw (parts-are, (rw (down, up) at (neighbours (n - 1) (k - 1)))) (choose-times-lt (n - 1) k (omega arith))
-
     counted : count ≡ parts n k
     counted = going .parts ∙ listed-compositions n k .long
+
+    pub share : (count * (n - k) < 2 ^ 32) × (count * (n - k) % k ≡ 0)
+    share = next-share n k (omega (arith, going .low)) le (omega arith) counted
 
     pub count-lt : count < 2 ^ 31
     count-lt = rw counted (parts-lt n k (omega arith))

@@ -1,7 +1,7 @@
 -- A sequence read one quotient after the other, for code that takes it from an array: its intermediate bits and its word as numbers, and
 -- its composition's rank by the gaps.
 use Prim.Native.Nat.{ℕ, zero, suc, _+_, _-_, _*_, _/_, _%_, _^_, _≤_, _<_}
-use native.Mathlib.Nat.{mod-eq-of-lt, mul-one, zero-add, mul-le-mul-left, le-refl}
+use native.Mathlib.Nat.{mod-eq-of-lt, mul-one, zero-add, zero-mul, mul-le-mul-left, le-refl}
 use native.Mathlib.Numerals.{sub-one}
 use native.Mathlib.Omega.{arith}
 use mathlib.Core.Path.{_≡_, refl, sym, ap, _∙_}
@@ -20,6 +20,8 @@ use Rattle.pairs.proofs.Letters.{number-lt, letters, letters-number, nu
 use Rattle.pairs.proofs.Quotients.{middle, middle-lt, middleFrom, middleFrom-is, quotients-of-parts, bit-constant, code-has}
 use Rattle.pairs.proofs.Compositions.{parts, pascal, parts-share, compositionRank}
 use Rattle.pairs.proofs.Blocks.{between-lt, length-le}
+use Rattle.pairs.proofs.Binomial.{down-whole}
+use Rattle.pairs.proofs.Bounds.{choose-times-lt}
 
 -- ---- intermediate bits and word
 digits-letters : (m x : ℕ) → digits m x ≡ letters m x
@@ -172,6 +174,20 @@ module _ {n : ℕ} {all : List ℕ} where
 
     pub left-several : 0 < m → 2 ≤ left
     left-several h = rw (w .total) at (several d ds (w .here) (w .later) (omega (arith, w .long)))
+
+    pub share-fits : n < 32 → count * m < 2 ^ 32
+    share-fits small = go left (w .count-is) (omega (arith, w .within))
+      where
+        go : (left : ℕ) → count ≡ parts left (suc m) → left < 32 → count * m < 2 ^ 32
+        go zero is l = rw (is, zero-mul m) (omega arith)
+        go (suc gaps) is l = rw is (choose-times-lt gaps m (omega arith))
+
+    pub share-whole : 0 < m → count * m % (left - 1) ≡ 0
+    share-whole h = go left (left-several h) (w .count-is)
+      where
+        go : (left : ℕ) → 2 ≤ left → count ≡ parts left (suc m) → count * m % (left - 1) ≡ 0
+        go zero l is = absurd (omega arith)
+        go (suc gaps) l is = rw (sub-one, is) (down-whole gaps m (omega arith))
 
     pub share-le : 0 < m → count * m / (left - 1) ≤ count
     share-le h = go left (left-several h) (w .count-is) (share-is left count m (left-several h) (w .count-is))

@@ -6,11 +6,8 @@ use native.Mathlib.Nat.{
   add-suc,
   suc-add,
   mul-comm,
-  mul-le-mul,
   pow-suc,
   suc-sub-suc,
-  le-of-lt,
-  le-of-suc-le-suc,
   pow-le-pow-right,
 }
 use native.Mathlib.Numerals.{sub-one, add-one}
@@ -23,7 +20,8 @@ use Rattle.pairs.specs.Counts.{choose}
 use Rattle.pairs.specs.Loops.{numbers, each}
 use Rattle.pairs.specs.Words.{s10, words}
 use Rattle.pairs.specs.Sequences.{block, sequences}
-use Rattle.pairs.proofs.Binomial.{choose-next}
+use Rattle.pairs.proofs.Binomial.{neighbours, choose-next, next-whole}
+use Rattle.pairs.proofs.Bounds.{choose-times-lt}
 use Rattle.pairs.proofs.Compositions.{parts}
 use Rattle.pairs.proofs.Loops.{before, listed-blocks}
 use Rattle.pairs.proofs.Words.{count}
@@ -72,12 +70,6 @@ parts-lt zero (suc k) h = omega arith
 parts-lt (suc n) zero h = omega arith
 parts-lt (suc n) (suc k) h = omega (arith, choose-le n k, pow-mono {i = n} {j = 30} (omega arith))
 
-pub share-lt : (n k m : ℕ) → n < 32 → m < 32 → parts n k * m < 2 ^ 36
-share-lt n k m h l =
-    let few : parts n k ≤ 2 ^ 31 = le-of-lt (parts-lt n k h) in
-    let small : parts n k * m ≤ 2 ^ 31 * 31 = mul-le-mul few (le-of-suc-le-suc l) in
-    omega arith
-
 pub sequences-lt : (n : ℕ) → n < 32 → length (sequences n) < 2 ^ 60
 sequences-lt n h =
     let small : 4 ^ (n - 1) ≤ 4 ^ 30 = pow-le-pow-right {n = 4} (omega arith) {i = n - 1} {j = 30} (omega arith) in
@@ -96,6 +88,15 @@ pub parts-next : (n k : ℕ) → 1 ≤ n → 1 ≤ k → parts n k * (n - k) / k
 parts-next zero k h l = absurd (omega arith)
 parts-next (suc n) zero h l = absurd (omega arith)
 parts-next (suc n) (suc k) h l = rw (add-one, suc-sub-suc) (sym (choose-next n k))
+
+-- That product fits, and k divides it.
+pub next-share : (n k : ℕ) {c : ℕ} → 1 ≤ k → k ≤ n → n < 32 → c ≡ parts n k → (c * (n - k) < 2 ^ 32) × (c * (n - k) % k ≡ 0)
+next-share n zero l h small is = absurd (omega arith)
+next-share zero (suc k) l h small is = absurd (omega arith)
+next-share (suc n) (suc k) l h small is = (
+  rw (is, suc-sub-suc n k, neighbours n k) (choose-times-lt n (suc k) (omega arith)),
+  rw (is, suc-sub-suc n k) (next-whole n k),
+)
 
 pub size-shifted : (n k c w : ℕ) → k ≤ n → n < 32 → c ≡ parts n k → w ≡ length (words k) → c * (w * 2 ^ (n - k) % 2 ^ 64) ≡ blockSize n k
 unfolding blockSize

@@ -85,12 +85,6 @@ module _ {n word bits : ℕ} {t : Pair} where
   pub commas-lt : {index left gaps commas r s product : ℕ} → Between n word bits t index left gaps commas r s product → commas < 31
   commas-lt b = omega (arith, commas-le (b .share), b .few, b .gap)
 
-  pub digit-fits : {index left gaps commas r s product : ℕ} → Between n word bits t index left gaps commas r s product
-      → (x : ℕ) → x < 2 → x * r < 2 ^ 32
-  digit-fits {gaps = gaps} {r = r} b x h =
-      let l : x * r ≤ 1 * r = mul-le-mul-right r (omega arith) in
-      omega (arith, b .r-lt, pow-mono {i = n - gaps} {j = 31} (omega (arith, b .few)))
-
   module _ (g p : ℕ) {index left r s product : ℕ} (b : Between n word bits t index left (suc g) p r s product) where
     -- One gap less leaves room for one digit more.
     room : n - g ≡ suc (n - suc g)

@@ -1,6 +1,7 @@
 // The pairs from a position on, many at a time. Quotient sequences that differ only in their constant terms stand side by side in the
 // list; such a group shares its heads, the quotients without their constant terms, and its words share the remainders of their beginnings.
 use crate::answer::Filled;
+use crate::share::share;
 use crate::table::word_count;
 use poly::Count;
 use poly::Degree;
@@ -54,7 +55,7 @@ fn fill_list(n: u32, position: u64, out: &mut [u32]) -> usize
         let groups = (count as u64) << (n - k);
         done = fill_block(n, k, count, groups, skip, out, done);
         skip = less(skip, groups * word_count(k as usize));
-        count = count * (n - k) / k;
+        count = share(count * (n - k), k);
         k += 1;
     }
     done
@@ -103,7 +104,7 @@ fn heads_of(n: u32, k: u32, count: u32, group: u64) -> [u32; 32]
     let mut commas = k - 1;
     let mut head = 1;
     while 0 < gaps {
-        let with_comma = left * commas / gaps;
+        let with_comma = share(left * commas, gaps);
         gaps -= 1;
         if index < with_comma {
             heads[commas as usize] = head;

@@ -5,6 +5,7 @@ mod pair;
 mod position;
 mod ranks;
 mod readers;
+mod share;
 mod table;
 
 pub use answer::Filled;

@@ -1,6 +1,7 @@
 // The pair at a position, with no table of quotients.
 use crate::answer::Found;
 use crate::readers::from10;
+use crate::share::share;
 use crate::table::word_count;
 use poly::Count;
 use poly::Degree;
@@ -44,7 +45,7 @@ fn seek(n: u32, position: u64) -> Found
     let mut size = block_size(n, k, count, words);
     while size <= place {
         place -= size;
-        count = count * (n - k) / k;
+        count = share(count * (n - k), k);
         words = (1u64 << k) - words;
         k += 1;
         size = block_size(n, k, count, words);
@@ -86,21 +87,21 @@ fn pair_in(n: u32, k: u32, count: u32, place: u64) -> Found
     let mut s = 0;
     let mut product = 1;
     while 0 < gaps {
-        let with_comma = left * commas / gaps;
+        let with_comma = share(left * commas, gaps);
         gaps -= 1;
         if index < with_comma {
-            let next = (product << 1) ^ ((word >> commas) % 2 * r) ^ s;
+            let next = (product << 1) ^ poly::scaled(r, word >> commas) ^ s;
             s = r;
             r = next;
             product = next;
             commas -= 1;
             left = with_comma;
         } else {
-            product = (product << 1) ^ (((bits >> (gaps - commas)) % 2) as u32 * r);
+            product = (product << 1) ^ poly::scaled(r, ((bits >> (gaps - commas)) % 2) as u32);
             index -= with_comma;
             left -= with_comma;
         }
     }
-    let last = (product << 1) ^ (word % 2 * r) ^ s;
+    let last = (product << 1) ^ poly::scaled(r, word) ^ s;
     Found::Codes(last ^ r, last)
 }

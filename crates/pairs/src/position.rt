@@ -1,6 +1,7 @@
 // The position of a pair. Euclid's chain gives the quotients, and these say where the pair stands in the list.
 use crate::answer::Place;
 use crate::ranks::rank10;
+use crate::share::share;
 use crate::table::word_count;
 use euclid::Chained;
 use reply::Refusal;
@@ -43,13 +44,13 @@ fn sequence_position(n: u32, chain: &[u32], k: usize) -> u64
     let parts = bits_and_word(chain, k);
     let words = word_count(k);
     let word = rank10(k, parts.word, words);
-    let place = (composition << (n - k as u32)) + parts.bits as u64;
+    let place = ((composition as u64) << (n - k as u32)) + parts.bits as u64;
     before.size + place * words + word
 }
 
 struct Before {
     size: u64,
-    compositions: u64,
+    compositions: u32,
 }
 
 // How many sequences have fewer than k quotients, and how many compositions have k parts. Each number of compositions, and of words of j
@@ -60,11 +61,11 @@ fn blocks_before(n: u32, k: usize) -> Before
 {
     let mut j: u32 = 2;
     let mut size: u64 = 0;
-    let mut compositions = (n - 1) as u64;
+    let mut compositions = n - 1;
     let mut words = 2;
     while (j as usize) < k {
-        size += compositions * (words << (n - j));
-        compositions = compositions * (n - j) as u64 / j as u64;
+        size += compositions as u64 * (words << (n - j));
+        compositions = share(compositions * (n - j), j);
         words = (1u64 << j) - words;
         j += 1;
     }
@@ -73,7 +74,7 @@ fn blocks_before(n: u32, k: usize) -> Before
 
 // The index of the degrees among the compositions of n into k parts; count is their number. The walk goes over the gaps between n ones: a
 // comma ends a degree, and before each plus stand the compositions with a comma in its place.
-fn composition_rank(n: u32, chain: &[u32], k: usize, count: u64) -> u64
+fn composition_rank(n: u32, chain: &[u32], k: usize, count: u32) -> u32
     requires small { ⌜ n < 32 ⌝ }
     requires room { ⌜ k < length (now chain) ⌝ }
     requires listed { ⌜ Among (sequences n) (backwards (now chain) k) ⌝ }
@@ -81,13 +82,13 @@ fn composition_rank(n: u32, chain: &[u32], k: usize, count: u64) -> u64
     ensures { λ r. ⌜ StandsAt (compositions n k) r (map (degree 2) (backwards (now (chain .entry)) k)) ⌝ }
 {
     let mut rank = 0;
-    let mut left = n as u64;
+    let mut left = n;
     let mut count = count;
     let mut commas = k - 1;
     let mut d = poly::degree_of(chain[k]);
     while 0 < commas {
         left -= 1;
-        let with_comma = count * commas as u64 / left;
+        let with_comma = share(count * commas as u32, left);
         if 1 < d {
             rank += with_comma;
             count -= with_comma;

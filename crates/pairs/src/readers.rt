@@ -41,7 +41,7 @@ fn from11(m: u32, i: u64, count: u64) -> u32
     (1u32 << rest) + from01(rest, i - zeros, count - zeros)
 }
 
-// The same from (0,1): either letter goes to (1,0).
+// The same from (0,1): either letter goes to (1,0), so that no branch is needed.
 fn from01(m: u32, i: u64, count: u64) -> u32
     requires { ⌜ m ≤ 31 ⌝ }
     requires { ⌜ count ≡ length (wordsFrom s01 m) ⌝ }
@@ -50,8 +50,6 @@ fn from01(m: u32, i: u64, count: u64) -> u32
 {
     let rest = m - 1;
     let half = count / 2;
-    if i < half {
-        return from10(rest, i, half);
-    }
-    (1u32 << rest) + from10(rest, i - half, half)
+    let letter = (half <= i) as u32;
+    (letter << rest) + from10(rest, i - half * letter as u64, half)
 }

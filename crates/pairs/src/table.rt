@@ -5,7 +5,7 @@ ghost use lib.ListN.{length};
 ghost use Rattle.pairs.specs.Words.{words};
 
 // Document 01's printed table: the number of kept words of k letters, (2^k + 2(-1)^k)/3, for k from 0 to 31.
-const WORDS: [u64; 32] = [
+const WORDS: [u32; 32] = [
     1,
     0,
     2,
@@ -44,5 +44,5 @@ pub(crate) fn word_count(k: usize) -> u64
     requires { ⌜ k < 32 ⌝ }
     ensures { λ r. ⌜ r ≡ length (words k) ⌝ }
 {
-    WORDS[k]
+    WORDS[k] as u64
 }

@@ -1,6 +1,7 @@
 // Arithmetic of codes.
 use reply::Refusal;
 ghost use mathlib.Core.Path.{_≡_};
+ghost use Prim.Native.Nat.{_*_, _%_};
 ghost use Rattle.poly.specs.Code.{degree, mul};
 ghost use Rattle.poly.specs.Replies.{checkedReply, checkReply, checkPairReply, divisionOf};
 ghost use Rattle.poly.specs.Division.{divide};
@@ -47,6 +48,13 @@ pub fn check_pair(n: u32, f: u32, g: u32) -> Checked
     check(n, g)
 }
 
+// A code times the constant term of another. By a mask: of a product the compiler makes a branch, and nothing foretells the bits.
+pub fn scaled(code: u32, by: u32) -> u32
+    ensures { λ r. ⌜ r ≡ by % 2 * code ⌝ }
+{
+    code & (by % 2 * 4294967295)
+}
+
 // The product, by one pass over the bits of the shorter factor.
 pub fn product(a: u32, b: u32) -> u64
     ensures { λ r. ⌜ r ≡ mul 2 a b ⌝ }
@@ -62,7 +70,7 @@ fn times(a: u32, b: u32) -> u64
     let mut sum: u64 = 0;
     while 0 < left {
         left -= 1;
-        sum = (sum << 1) ^ ((a >> left) % 2) as u64 * b as u64;
+        sum = (sum << 1) ^ scaled(b, a >> left) as u64;
     }
     sum
 }

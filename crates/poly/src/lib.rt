@@ -9,5 +9,6 @@ pub use arithmetic::check_pair;
 pub use arithmetic::degree_of;
 pub use arithmetic::divide;
 pub use arithmetic::product;
+pub use arithmetic::scaled;
 pub use limits::Count;
 pub use limits::Degree;

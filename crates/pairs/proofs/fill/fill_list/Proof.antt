@@ -2,7 +2,7 @@
 use Prim.Native.Nat.{suc, _-_, _≤_}
 use native.Mathlib.Omega.{arith}
 use borrow.Author.Needs.{needs}
-use Rattle.pairs.proofs.Listing.{Going, begins, stops-full, stops-done, product-fits, count-lt, shifted, size-fits, turn}
+use Rattle.pairs.proofs.Listing.{Going, begins, stops-full, stops-done, share, count-lt, shifted, size-fits, turn}
 use Rattle.pairs.proofs.fill.fill_list.Statement.{statement}
 use Rattle.pairs.proofs.fill.fill_list.Tie as tie
 
@@ -61,26 +61,30 @@ mul-less c =
 less-requires : tie.Need-less-requires Inv-loop μ-loop
 less-requires c κs = search needs
 
-mul-count : tie.Need-mul-count Inv-loop μ-loop
-mul-count c =
+mul-share : tie.Need-mul-share Inv-loop μ-loop
+mul-share c =
     let (going, le, small) = turning (c .before .before .before .before .before .before .before) in
-    record { fits = product-fits going le small }
+    record { fits = share going le small .0 }
 
-div-count : tie.Need-div-count Inv-loop μ-loop
-div-count c = omega (arith, c .before .before .before .before .before .before .before .before .loop .inv .low)
+share-requires : tie.Need-share-requires Inv-loop μ-loop
+share-requires c κs =
+    let (going, le, small) = turning (c .before .before .before .before .before .before .before) in
+    (omega (arith, going .low), share going le small .1)
 
 add-k : tie.Need-add-k Inv-loop μ-loop
 add-k c =
-    let (going, le, small) = turning (c .before .before .before .before .before .before .before) in
+    let (going, le, small) = turning (c .before .before .before .before .before .before .before .before) in
     record { fits = omega arith }
 
 loop-less : tie.Need-loop-less Inv-loop μ-loop
-loop-less c = omega (arith, c .before .before .before .before .before .before .before .loop-test .taken)
+loop-less c = omega (arith, c .before .before .before .before .before .before .before .before .loop-test .taken)
 
 loop-again : tie.Need-loop-again Inv-loop μ-loop
 loop-again c =
-    let (going, le, small) = turning (c .before .before .before .before .before .before .before) in
-    turn going le small (c .before .word-count .ensures) (c .less .ensures) (c .before .before .before .before .fill-block .ensures)
+    let (going, le, small) = turning (c .before .before .before .before .before .before .before .before) in
+    rw (c .share .ensures)
+    (turn going le small (c .before .before .word-count .ensures) (c .before .less .ensures)
+    (c .before .before .before .before .before .fill-block .ensures))
 
 same-length-2 : tie.Need-same-length-2 Inv-loop μ-loop
 same-length-2 c = c .before .loop .inv .long
@@ -106,8 +110,8 @@ fill-list-spec =
     word-count-requires
     mul-less
     less-requires
-    mul-count
-    div-count
+    mul-share
+    share-requires
     add-k
     loop-less
     loop-again

@@ -1,9 +1,9 @@
 -- `heads_of` meets its contract: the laws of `Heads` say that each turn of the loop keeps what the heads are to give.
 use mathlib.Core.Path.{refl}
-use Prim.Native.Nat.{_-_, _/_, _^_}
+use Prim.Native.Nat.{_-_, _*_, _/_, _^_, _≤_, _<_}
 use native.Mathlib.Omega.{arith}
 use lib.ListN.{replicate}
-use Rattle.pairs.proofs.Gaps.{share-fits, comma-left, plus-left, share-le}
+use Rattle.pairs.proofs.Gaps.{share-fits, share-whole, comma-left, plus-left, share-le}
 use Rattle.pairs.proofs.Heads.{Between, begins, commas-lt, head-fits, comma-turn, plus-turn, finished}
 use Rattle.pairs.proofs.fill.heads_of.Statement.{statement}
 use Rattle.pairs.proofs.fill.heads_of.Tie as tie
@@ -44,56 +44,75 @@ sub-commas c = omega arith
 loop-holds : tie.Need-loop-holds Inv-loop μ-loop
 loop-holds c = first c
 
-mul-with-comma : tie.Need-mul-with-comma Inv-loop μ-loop
-mul-with-comma c = let b = c .before .loop .inv in record { fits = share-fits (b .choices) (omega (arith, b .few, b .gap)) }
+mul-share : tie.Need-mul-share Inv-loop μ-loop
+mul-share c = let b = c .before .loop .inv in record { fits = share-fits (b .choices) (omega (arith, b .few, b .gap)) }
 
-div-with-comma : tie.Need-div-with-comma Inv-loop μ-loop
-div-with-comma c = omega arith
+share-requires : tie.Need-share-requires Inv-loop μ-loop
+share-requires c κs = (c .loop-test .taken, share-whole _ _ (c .before .loop .inv .choices) (c .loop-test .taken))
 
 sub-gaps-2 : tie.Need-sub-gaps-2 Inv-loop μ-loop
-sub-gaps-2 c = omega arith
+sub-gaps-2 c = c .before .loop-test .taken
 
 cast-heads : tie.Need-cast-heads Inv-loop μ-loop
-cast-heads c = omega (arith, commas-lt (c .before .before .loop .inv))
+cast-heads c = omega (arith, commas-lt (c .before .before .before .loop .inv))
 
 mul-heads : tie.Need-mul-heads Inv-loop μ-loop
-mul-heads c = omega (arith, commas-lt (c .before .before .loop .inv))
+mul-heads c = omega (arith, commas-lt (c .before .before .before .loop .inv))
 
 array-write-heads : tie.Need-array-write-heads Inv-loop μ-loop
-array-write-heads c = omega (arith, commas-lt (c .before .before .loop .inv))
+array-write-heads c = omega (arith, commas-lt (c .before .before .before .loop .inv))
+
+-- the tests, with the share in its place
+comma : (c : tie.Then1 Inv-loop μ-loop)
+    → c .before .before .before .loop .index
+    < c .before .before .before .loop .left * c .before .before .before .loop .commas / c .before .before .before .loop .gaps
+comma c = rw (c .before .share .ensures) at (c .if1 .taken)
+
+plus : (c : tie.Else1 Inv-loop μ-loop)
+    → c .before .before .before .loop .left * c .before .before .before .loop .commas / c .before .before .before .loop .gaps
+    ≤ c .before .before .before .loop .index
+plus c = rw (c .before .share .ensures) at (c .if1 .left)
 
 sub-commas-2 : tie.Need-sub-commas-2 Inv-loop μ-loop
-sub-commas-2 c = comma-left _ _ (c .before .before .loop .inv .choices) (c .before .loop-test .taken) (c .if1 .taken)
+sub-commas-2 c = comma-left _ _ (c .before .before .before .loop .inv .choices) (c .before .before .loop-test .taken) (comma c)
 
 loop-less : tie.Need-loop-less Inv-loop μ-loop
-loop-less c = omega arith
+loop-less c = omega (arith, c .before .before .loop-test .taken)
 
 loop-again : tie.Need-loop-again Inv-loop μ-loop
-loop-again c = comma-turn _ _ (c .before .before .loop .inv) (c .before .loop-test .taken) (c .if1 .taken)
+loop-again c =
+    rw (c .before .share .ensures)
+    (comma-turn _ _ (c .before .before .before .loop .inv) (c .before .before .loop-test .taken) (comma c))
 
 sub-head : tie.Need-sub-head Inv-loop μ-loop
-sub-head c = plus-left _ _ (c .before .before .loop .inv .choices) (c .before .loop-test .taken) (c .if1 .left)
+sub-head c = plus-left _ _ (c .before .before .before .loop .inv .choices) (c .before .before .loop-test .taken) (plus c)
 
 cast-head : tie.Need-cast-head Inv-loop μ-loop
-cast-head c = record { fits = omega (arith, c .before .before .loop .inv .gap, c .before .before .loop .inv .few) }
+cast-head c = let b = c .before .before .before .loop .inv in record { fits = omega (arith, b .gap, b .few) }
 
 shr-head : tie.Need-shr-head Inv-loop μ-loop
-shr-head c = omega (arith, c .before .before .loop .inv .gap, c .before .before .loop .inv .few)
+shr-head c = let b = c .before .before .before .loop .inv in omega (arith, b .gap, b .few)
 
 cast-head-2 : tie.Need-cast-head-2 Inv-loop μ-loop
 cast-head-2 c = omega arith
 
 add-head : tie.Need-add-head Inv-loop μ-loop
-add-head c = record { fits = head-fits _ _ (c .before .before .loop .inv) (c .before .loop-test .taken) _ (omega arith) }
+add-head c = record {
+  fits = head-fits _ _ (c .before .before .before .loop .inv) (c .before .before .loop-test .taken) _ (omega arith);
+}
 
 sub-left : tie.Need-sub-left Inv-loop μ-loop
-sub-left c = share-le _ _ (c .before .before .loop .inv .choices) (c .before .loop-test .taken)
+sub-left c =
+    rw (c .before .share .ensures)
+    (share-le _ _ (c .before .before .before .loop .inv .choices) (c .before .before .loop-test .taken))
 
 loop-less-2 : tie.Need-loop-less-2 Inv-loop μ-loop
-loop-less-2 c = omega arith
+loop-less-2 c = omega (arith, c .before .before .loop-test .taken)
 
 loop-again-2 : tie.Need-loop-again-2 Inv-loop μ-loop
-loop-again-2 c = plus-turn _ _ (c .before .before .loop .inv) (c .before .loop-test .taken) (c .if1 .left)
+loop-again-2 c =
+    rw (c .before .share .ensures)
+    (plus-turn _ _ (c .before .before .before .loop .inv) (c .before .before .loop-test .taken) (plus c))
 
 array-write-heads-2 : tie.Need-array-write-heads-2 Inv-loop μ-loop
 array-write-heads-2 c = omega arith
@@ -114,8 +133,8 @@ heads-of-spec =
     sub-gaps
     sub-commas
     loop-holds
-    mul-with-comma
-    div-with-comma
+    mul-share
+    share-requires
     sub-gaps-2
     cast-heads
     mul-heads

@@ -1,9 +1,10 @@
 -- `pair_in` meets its contract: the laws of `Turns` say that each turn of the loop keeps the pair that it is on the way to.
-use Prim.Native.Nat.{_-_, _/_, _^_, _<_}
-use native.Mathlib.Nat.{mod-lt}
+use Prim.Native.Nat.{_-_, _*_, _/_, _^_, _≤_, _<_}
+use native.Mathlib.Nat.{mod-lt, mod-mod}
 use native.Mathlib.Omega.{arith}
+use borrow.Author.Needs.{needs}
 use Rattle.pairs.proofs.PairWalk.{walkIn}
-use Rattle.pairs.proofs.Gaps.{comma-left, plus-left, share-fits, share-le}
+use Rattle.pairs.proofs.Gaps.{comma-left, plus-left, share-fits, share-whole, share-le}
 use Rattle.pairs.proofs.Turns.{
   Between,
   first-turn,
@@ -11,7 +12,6 @@ use Rattle.pairs.proofs.Turns.{
   plus-turn,
   last-turn,
   commas-lt,
-  digit-fits,
   some-word,
   answer,
 }
@@ -76,64 +76,85 @@ sub-commas c = omega arith
 loop-holds : tie.Need-loop-holds Inv-loop μ-loop
 loop-holds c = begins c
 
-mul-with-comma : tie.Need-mul-with-comma Inv-loop μ-loop
-mul-with-comma c =
+mul-share : tie.Need-mul-share Inv-loop μ-loop
+mul-share c =
     let b = c .before .loop .inv in record { fits = share-fits (b .share) (omega (arith, b .few, b .gap)) }
 
-div-with-comma : tie.Need-div-with-comma Inv-loop μ-loop
-div-with-comma c = omega arith
+share-requires : tie.Need-share-requires Inv-loop μ-loop
+share-requires c κs = (c .loop-test .taken, share-whole _ _ (c .before .loop .inv .share) (c .loop-test .taken))
 
 sub-gaps-2 : tie.Need-sub-gaps-2 Inv-loop μ-loop
 sub-gaps-2 c = omega arith
 
-shr-next : tie.Need-shr-next Inv-loop μ-loop
-shr-next c = omega (arith, commas-lt (c .before .before .loop .inv))
+-- the test, with the share in its place
+comma : (c : tie.Then1 Inv-loop μ-loop)
+    → c .before .before .before .loop .index
+    < c .before .before .before .loop .left * c .before .before .before .loop .commas / c .before .before .before .loop .gaps
+comma c = rw (c .before .share .ensures) at (c .if1 .taken)
 
-mul-next : tie.Need-mul-next Inv-loop μ-loop
-mul-next c = record { fits = digit-fits (c .before .before .loop .inv) _ (omega arith) }
+plus : (c : tie.Else1 Inv-loop μ-loop)
+    → c .before .before .before .loop .left * c .before .before .before .loop .commas / c .before .before .before .loop .gaps
+    ≤ c .before .before .before .loop .index
+plus c = rw (c .before .share .ensures) at (c .if1 .left)
+
+shr-scaled : tie.Need-shr-scaled Inv-loop μ-loop
+shr-scaled c = omega (arith, commas-lt (c .before .before .before .loop .inv))
+
+scaled-requires : tie.Need-scaled-requires Inv-loop μ-loop
+scaled-requires c κs = search needs
 
 sub-commas-2 : tie.Need-sub-commas-2 Inv-loop μ-loop
-sub-commas-2 c = comma-left _ _ (c .before .before .loop .inv .share) (c .before .loop-test .taken) (c .if1 .taken)
+sub-commas-2 c =
+    let l = c .before .before .before .before .loop in
+    comma-left _ _ (l .inv .share) (c .before .before .before .loop-test .taken) (comma (c .before))
 
 loop-less : tie.Need-loop-less Inv-loop μ-loop
-loop-less c = omega arith
+loop-less c = omega (arith, c .before .before .before .loop-test .taken)
 
 loop-again : tie.Need-loop-again Inv-loop μ-loop
-loop-again c = comma-turn _ _ (c .before .before .loop .inv) (c .before .loop-test .taken) (c .if1 .taken)
+loop-again c =
+    rw (c .before .before .share .ensures, c .scaled .ensures)
+    (comma-turn _ _ (c .before .before .before .before .loop .inv) (c .before .before .before .loop-test .taken) (comma (c .before)))
 
-sub-product : tie.Need-sub-product Inv-loop μ-loop
-sub-product c = plus-left _ _ (c .before .before .loop .inv .share) (c .before .loop-test .taken) (c .if1 .left)
+sub-scaled : tie.Need-sub-scaled Inv-loop μ-loop
+sub-scaled c = plus-left _ _ (c .before .before .before .loop .inv .share) (c .before .before .loop-test .taken) (plus c)
 
-cast-product : tie.Need-cast-product Inv-loop μ-loop
-cast-product c = record { fits = omega (arith, c .before .before .loop .inv .gap, c .before .before .loop .inv .few) }
+cast-scaled : tie.Need-cast-scaled Inv-loop μ-loop
+cast-scaled c = let b = c .before .before .before .loop .inv in record { fits = omega (arith, b .gap, b .few) }
 
-shr-product : tie.Need-shr-product Inv-loop μ-loop
-shr-product c = omega (arith, c .before .before .loop .inv .gap, c .before .before .loop .inv .few)
+shr-scaled-2 : tie.Need-shr-scaled-2 Inv-loop μ-loop
+shr-scaled-2 c = let b = c .before .before .before .loop .inv in omega (arith, b .gap, b .few)
 
-cast-product-2 : tie.Need-cast-product-2 Inv-loop μ-loop
-cast-product-2 c = omega arith
+cast-scaled-2 : tie.Need-cast-scaled-2 Inv-loop μ-loop
+cast-scaled-2 c = search needs
 
-mul-product : tie.Need-mul-product Inv-loop μ-loop
-mul-product c = record { fits = digit-fits (c .before .before .loop .inv) _ (omega arith) }
+scaled-requires-2 : tie.Need-scaled-requires-2 Inv-loop μ-loop
+scaled-requires-2 c κs = search needs
 
 sub-left : tie.Need-sub-left Inv-loop μ-loop
-sub-left c = share-le _ _ (c .before .before .loop .inv .share) (c .before .loop-test .taken)
+sub-left c =
+    rw (c .before .before .share .ensures)
+    (share-le _ _ (c .before .before .before .before .loop .inv .share) (c .before .before .before .loop-test .taken))
 
 loop-less-2 : tie.Need-loop-less-2 Inv-loop μ-loop
-loop-less-2 c = omega arith
+loop-less-2 c = omega (arith, c .before .before .before .loop-test .taken)
 
 loop-again-2 : tie.Need-loop-again-2 Inv-loop μ-loop
-loop-again-2 c = plus-turn _ _ (c .before .before .loop .inv) (c .before .loop-test .taken) (c .if1 .left)
+loop-again-2 c =
+    rw (c .before .before .share .ensures, c .scaled2 .ensures, mod-mod)
+    (plus-turn _ _ (c .before .before .before .before .loop .inv) (c .before .before .before .loop-test .taken) (plus (c .before)))
 
-mul-last : tie.Need-mul-last Inv-loop μ-loop
-mul-last c = record { fits = digit-fits (c .before .loop .inv) _ (omega arith) }
+scaled-requires-3 : tie.Need-scaled-requires-3 Inv-loop μ-loop
+scaled-requires-3 c κs = search needs
 
 returns : tie.Need-returns Inv-loop μ-loop
 returns c =
-    let start = c .before .before .before .before in
+    let start = c .before .before .before .before .before in
+    let l = c .before .before .loop in
     let a = start .args in
     let (two, (le, (few, (compositions, fits)))) = start .pre in
-    answer (a .n) (a .k) (a .place) two le fits _ (c .before .loop .r) (last-turn _ _ (c .before .loop .inv) (c .loop-test .left))
+    rw (c .scaled3 .ensures)
+    (answer (a .n) (a .k) (a .place) two le fits _ (l .r) (last-turn _ _ (l .inv) (c .before .loop-test .left)))
 
 pub pair-in-spec : {M : Type 1} → statement M
 pair-in-spec =
@@ -152,21 +173,21 @@ pair-in-spec =
     sub-gaps
     sub-commas
     loop-holds
-    mul-with-comma
-    div-with-comma
+    mul-share
+    share-requires
     sub-gaps-2
-    shr-next
-    mul-next
+    shr-scaled
+    scaled-requires
     sub-commas-2
     loop-less
     loop-again
-    sub-product
-    cast-product
-    shr-product
-    cast-product-2
-    mul-product
+    sub-scaled
+    cast-scaled
+    shr-scaled-2
+    cast-scaled-2
+    scaled-requires-2
     sub-left
     loop-less-2
     loop-again-2
-    mul-last
+    scaled-requires-3
     returns)

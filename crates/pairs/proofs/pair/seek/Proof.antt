@@ -1,6 +1,6 @@
 -- `seek` meets its contract. The invariant: what stands at the place, counted from block k on, is what stands at the position.
 use mathlib.Core.List.{List, []}
-use mathlib.Core.Path.{_≡_, refl, sym, ap, _∙_}
+use mathlib.Core.Path.{_≡_, sym, ap, _∙_}
 use Prim.Native.Nat.{ℕ, zero, suc, _+_, _-_, _*_, _/_, _%_, _^_, _≤_, _<_}
 use native.Mathlib.Nat.{suc-sub-suc}
 use native.Mathlib.Numerals.{add-one}
@@ -8,20 +8,18 @@ use native.Mathlib.Omega.{arith}
 use borrow.Author.Needs.{needs}
 use borrow.Author.Tests.{lt-ltb, le-ltb}
 use lib.ListN.{length, getD}
-use Rattle.pairs.specs.Counts.{choose}
 use Rattle.pairs.specs.Words.{words}
 use Rattle.pairs.specs.Sequences.{compositions, block}
 use Rattle.pairs.specs.Pairs.{start, build, pairs}
 use Rattle.pairs.specs.Replies.{pairReply}
 use Rattle.pairs.proofs.Loops as loops
-use Rattle.pairs.proofs.Binomial.{neighbours, choose-next}
 use Rattle.pairs.proofs.Words.{listed-words}
 use Rattle.pairs.proofs.Shares.{next-fits, next-words}
-use Rattle.pairs.proofs.Compositions.{compositions-count}
+use Rattle.pairs.proofs.Compositions.{parts, listed-compositions}
 use Rattle.pairs.proofs.Blocks.{blockSize, blockAt, listed-block}
 use Rattle.pairs.proofs.Sequences.{sequenceAt}
 use Rattle.pairs.proofs.Pairs.{length-blocks, pairAt-is}
-use Rattle.pairs.proofs.Bounds.{choose-times-lt}
+use Rattle.pairs.proofs.Sizes.{parts-two, parts-next, next-share}
 use Rattle.pairs.proofs.pair.seek.Statement.{statement}
 use Rattle.pairs.proofs.pair.seek.Tie as tie
 
@@ -37,10 +35,6 @@ record Seeking (n position k count kept place : ℕ) : Type 0 where
   letters : kept ≡ length (words k)
   inside : place < loops.before (blockSize n) k (suc n - k)
   is : at n k (suc n - k) place ≡ sequenceAt n position
-
-choose-one : (n : ℕ) → choose n 1 ≡ n
-choose-one zero = refl
-choose-one (suc n) = omega (arith, choose-one n)
 
 module _ (n position : ℕ) (fits : position < length (pairs n)) where
   inside : position < loops.before (blockSize n) 2 (n - 1)
@@ -62,7 +56,7 @@ module _ (n position : ℕ) (fits : position < length (pairs n)) where
         few = few;
         low = omega arith;
         high = two;
-        parts = sym (compositions-count n 2 (omega (arith, two)) (omega arith) ∙ choose-one (n - 1));
+        parts = parts-two n (omega (arith, two)) ∙ sym (listed-compositions n 2 .long);
         letters = sym (listed-words 2 .long);
         inside = rw m inside;
         is = rw m;
@@ -73,23 +67,15 @@ some size a zero j h = absurd (omega arith)
 some size a (suc m) j h = omega arith
 
 module _ {n position k count kept place : ℕ} (h : Seeking n position k count kept place) where
-  down : n - 1 - (k - 1) ≡ n - k
-  down = omega (arith, h .low)
+  counted : count ≡ parts n k
+  counted = h .parts ∙ listed-compositions n k .long
 
-  up : suc (k - 1) ≡ k
-  up = omega (arith, h .low)
+  share : (count * (n - k) < 2 ^ 32) × (count * (n - k) % k ≡ 0)
+  share = next-share n k (omega (arith, h .low)) (h .high) (omega (arith, h .few)) counted
 
-  parts-are : count ≡ choose (n - 1) (k - 1)
-  parts-are = h .parts ∙ compositions-count n k (omega (arith, h .low, h .high)) (omega (arith, h .low))
-
-  product-fits : count * (n - k) < 2 ^ 32
-  product-fits = rw (parts-are, (rw (down, up) at (neighbours (n - 1) (k - 1)))) (choose-times-lt (n - 1) k (omega (arith, h .few)))
-
-  parts-next : count * (n - k) / k ≡ length (compositions n (suc k))
-  parts-next =
-      let back : suc k - 1 ≡ k = omega arith in
-      rw parts-are (sym (rw (down, up) at (choose-next (n - 1) (k - 1))))
-      ∙ sym (rw back at (compositions-count n (suc k) (omega (arith, h .low, h .high)) (omega arith)))
+  next-count : count * (n - k) / k ≡ length (compositions n (k + 1))
+  next-count =
+      rw counted (parts-next n k (omega (arith, h .low, h .high)) (omega (arith, h .low))) ∙ sym (listed-compositions n (k + 1) .long)
 
   blocks : suc n - k ≡ suc (n - k)
   blocks = omega (arith, h .high)
@@ -108,7 +94,7 @@ module _ {n position k count kept place : ℕ} (h : Seeking n position k count k
           few = h .few;
           low = omega (arith, h .low);
           high = omega (arith, some (blockSize n) (suc k) (n - k) (place - s) rest);
-          parts = parts-next;
+          parts = rw add-one at next-count;
           letters = next-words k kept (omega (arith, h .high, h .few)) (h .letters);
           inside = rw suc-sub-suc rest;
           is =
@@ -142,33 +128,34 @@ block-size-requires c κs =
 loop-holds : tie.Need-loop-holds Inv-loop μ-loop
 loop-holds c = (begins (c .before .args .n) (c .before .args .position) (c .before .pre .1) (c .before .pre .0), c .block-size .ensures)
 
-next : (c : tie.In-loop Inv-loop μ-loop)
-    → Seeking (c .before .before .before .args .n) (c .before .before .before .args .position) (c .before .loop .k + 1)
-    (c .before .loop .count * (c .before .before .before .args .n - c .before .loop .k) / c .before .loop .k)
-    (1 * 2 ^ c .before .loop .k % 2 ^ 64 - c .before .loop .words)
-    (c .before .loop .place - c .before .loop .size)
-next c = passes (c .before .loop .inv .0) (c .before .loop .size) (c .before .loop .inv .1) (c .loop-test .taken)
+next : (c : tie.After-share Inv-loop μ-loop)
+    → Seeking (c .before .before .before .before .args .n) (c .before .before .before .before .args .position)
+    (c .before .before .loop .k + 1) (c .share .result) (1 * 2 ^ c .before .before .loop .k % 2 ^ 64 - c .before .before .loop .words)
+    (c .before .before .loop .place - c .before .before .loop .size)
+next c =
+    let l = c .before .before .loop in
+    rw (c .share .ensures) (passes (l .inv .0) (l .size) (l .inv .1) (c .before .loop-test .taken))
 
-sub-count-2 : tie.Need-sub-count-2 Inv-loop μ-loop
-sub-count-2 c = c .before .loop .inv .0 .high
+sub-share : tie.Need-sub-share Inv-loop μ-loop
+sub-share c = c .before .loop .inv .0 .high
 
-mul-count : tie.Need-mul-count Inv-loop μ-loop
-mul-count c = record { fits = product-fits (c .before .loop .inv .0) }
+mul-share : tie.Need-mul-share Inv-loop μ-loop
+mul-share c = record { fits = share (c .before .loop .inv .0) .0 }
 
-div-count : tie.Need-div-count Inv-loop μ-loop
-div-count c = omega (arith, c .before .loop .inv .0 .low)
+share-requires : tie.Need-share-requires Inv-loop μ-loop
+share-requires c κs = let b = c .before .loop .inv .0 in (omega (arith, b .low), share b .1)
 
 cast-words : tie.Need-cast-words Inv-loop μ-loop
 cast-words c = search needs
 
 shl-words : tie.Need-shl-words Inv-loop μ-loop
-shl-words c = omega (arith, c .before .loop .inv .0 .high, c .before .loop .inv .0 .few)
+shl-words c = let b = c .before .before .loop .inv .0 in omega (arith, b .high, b .few)
 
 sub-words : tie.Need-sub-words Inv-loop μ-loop
-sub-words c = let b = c .before .loop .inv .0 in next-fits _ _ (omega (arith, b .high, b .few)) (b .letters)
+sub-words c = let b = c .before .before .loop .inv .0 in next-fits _ _ (omega (arith, b .high, b .few)) (b .letters)
 
 add-k : tie.Need-add-k Inv-loop μ-loop
-add-k c = record { fits = omega (arith, c .before .loop .inv .0 .high, c .before .loop .inv .0 .few) }
+add-k c = let b = c .before .before .loop .inv .0 in record { fits = omega (arith, b .high, b .few) }
 
 block-size-requires-2 : tie.Need-block-size-requires-2 Inv-loop μ-loop
 block-size-requires-2 c κs = let p = next c in (p .low, (p .high, (p .few, (p .parts, p .letters))))
@@ -198,9 +185,9 @@ seek-spec =
     sub-count
     block-size-requires
     loop-holds
-    sub-count-2
-    mul-count
-    div-count
+    sub-share
+    mul-share
+    share-requires
     cast-words
     shl-words
     sub-words

@@ -15,10 +15,11 @@ use Rattle.pairs.proofs.Sizes.{
   length-before,
   blocks-next,
   blocks-within,
-  share-lt,
   sequences-lt,
   parts-two,
+  parts-lt,
   parts-next,
+  next-share,
   size-shifted,
 }
 use Rattle.pairs.proofs.position.blocks_before.Statement.{statement}
@@ -34,20 +35,22 @@ abbrev μ-loop : tie.MeasureT-loop
 sub-compositions : tie.Need-sub-compositions Inv-loop μ-loop
 sub-compositions c = omega arith
 
-cast-compositions : tie.Need-cast-compositions Inv-loop μ-loop
-cast-compositions c = omega arith
-
 loop-holds : tie.Need-loop-holds Inv-loop μ-loop
 loop-holds c = (omega arith, omega arith, refl, parts-two (c .args .n) (omega arith), sym (listed-words 2 .long))
 
 cast-loop : tie.Need-cast-loop Inv-loop μ-loop
 cast-loop c = omega arith
 
+cast-size : tie.Need-cast-size Inv-loop μ-loop
+cast-size c =
+    let n : ℕ = c .before .before .args .n in
+    record { fits = rw (c .before .loop .inv .3) (omega (arith, parts-lt n (c .before .loop .j) (omega arith))) }
+
 sub-size : tie.Need-sub-size Inv-loop μ-loop
 sub-size c = omega arith
 
-cast-size : tie.Need-cast-size Inv-loop μ-loop
-cast-size c = omega arith
+cast-size-2 : tie.Need-cast-size-2 Inv-loop μ-loop
+cast-size-2 c = omega arith
 
 shl-size : tie.Need-shl-size Inv-loop μ-loop
 shl-size c = omega arith
@@ -72,23 +75,20 @@ mul-size c = rw (here c) (omega (arith, room c))
 add-size : tie.Need-add-size Inv-loop μ-loop
 add-size c = rw (here c) (omega (arith, room c))
 
-sub-compositions-2 : tie.Need-sub-compositions-2 Inv-loop μ-loop
-sub-compositions-2 c = omega arith
+-- the next number of compositions
+share : (c : tie.In-loop Inv-loop μ-loop)
+    → (c .before .loop .compositions * (c .before .before .args .n - c .before .loop .j) < 2 ^ 32)
+    × (c .before .loop .compositions * (c .before .before .args .n - c .before .loop .j) % c .before .loop .j ≡ 0)
+share c = next-share (c .before .before .args .n) (c .before .loop .j) (omega arith) (omega arith) (omega arith) (c .before .loop .inv .3)
 
-cast-compositions-2 : tie.Need-cast-compositions-2 Inv-loop μ-loop
-cast-compositions-2 c = omega arith
+sub-share : tie.Need-sub-share Inv-loop μ-loop
+sub-share c = omega arith
 
-mul-compositions : tie.Need-mul-compositions Inv-loop μ-loop
-mul-compositions c =
-    let n : ℕ = c .before .before .args .n in
-    let j : ℕ = c .before .loop .j in
-    rw (c .before .loop .inv .3) (omega (arith, share-lt n j (n - j) (omega arith) (omega arith)))
+mul-share : tie.Need-mul-share Inv-loop μ-loop
+mul-share c = record { fits = share c .0 }
 
-cast-compositions-3 : tie.Need-cast-compositions-3 Inv-loop μ-loop
-cast-compositions-3 c = omega arith
-
-div-compositions : tie.Need-div-compositions Inv-loop μ-loop
-div-compositions c = omega arith
+share-requires : tie.Need-share-requires Inv-loop μ-loop
+share-requires c κs = (omega arith, share c .1)
 
 cast-words : tie.Need-cast-words Inv-loop μ-loop
 cast-words c = omega arith
@@ -97,7 +97,7 @@ shl-words : tie.Need-shl-words Inv-loop μ-loop
 shl-words c = omega arith
 
 sub-words : tie.Need-sub-words Inv-loop μ-loop
-sub-words c = next-fits _ _ (omega arith) (c .before .loop .inv .4)
+sub-words c = next-fits _ _ (omega arith) (c .before .before .loop .inv .4)
 
 add-j : tie.Need-add-j Inv-loop μ-loop
 add-j c = omega arith
@@ -107,13 +107,13 @@ loop-less c = omega arith
 
 loop-again : tie.Need-loop-again Inv-loop μ-loop
 loop-again c =
-    let n : ℕ = c .before .before .args .n in
-    let j : ℕ = c .before .loop .j in (
+    let n : ℕ = c .before .before .before .args .n in
+    let l = c .before .before .loop in (
       omega arith,
       omega arith,
-      rw (here c, c .before .loop .inv .2) (sym (blocks-next n j (omega arith))),
-      rw (c .before .loop .inv .3) (parts-next n j (omega arith) (omega arith)),
-      next-words j (c .before .loop .words) (omega arith) (c .before .loop .inv .4) ∙ ap (λ v. length (words v)) (sym (add-one j)),
+      rw (here (c .before), l .inv .2) (sym (blocks-next n (l .j) (omega arith))),
+      rw (c .share .ensures, l .inv .3) (parts-next n (l .j) (omega arith) (omega arith)),
+      next-words (l .j) (l .words) (omega arith) (l .inv .4) ∙ ap (λ v. length (words v)) (sym (add-one (l .j))),
     )
 
 returns : tie.Need-returns Inv-loop μ-loop
@@ -132,19 +132,17 @@ blocks-before-spec =
     Inv-loop
     μ-loop
     sub-compositions
-    cast-compositions
     loop-holds
     cast-loop
-    sub-size
     cast-size
+    sub-size
+    cast-size-2
     shl-size
     mul-size
     add-size
-    sub-compositions-2
-    cast-compositions-2
-    mul-compositions
-    cast-compositions-3
-    div-compositions
+    sub-share
+    mul-share
+    share-requires
     cast-words
     shl-words
     sub-words

@@ -11,9 +11,19 @@ use Rattle.pairs.specs.Sequences.{compositions}
 use Rattle.pairs.specs.Ranking.{StandsAt, backwards}
 use Rattle.pairs.proofs.Valid.{Valid}
 use Rattle.pairs.proofs.Compositions.{parts, listed-compositions, compositionRank, compositionRank-lt}
-use Rattle.pairs.proofs.Sizes.{parts-lt, share-lt}
+use Rattle.pairs.proofs.Sizes.{parts-lt}
 use Rattle.pairs.proofs.Ranking.{among-valid, length-backwards, backwards-count, backwards-step, composition-stands}
-use Rattle.pairs.proofs.ReadBack.{Walked, walked-none, walked-plus, walked-comma, walked-all, left-several, share-le}
+use Rattle.pairs.proofs.ReadBack.{
+  Walked,
+  walked-none,
+  walked-plus,
+  walked-comma,
+  walked-all,
+  left-several,
+  share-fits,
+  share-whole,
+  share-le,
+}
 use Rattle.pairs.proofs.position.composition_rank.Statement.{statement}
 use Rattle.pairs.proofs.position.composition_rank.Tie as tie
 
@@ -87,35 +97,40 @@ two c = left-several (c .before .loop .inv .1) (c .loop-test .taken)
 sub-left : tie.Need-sub-left Inv-loop μ-loop
 sub-left c = omega (arith, two c)
 
-mul-with-comma : tie.Need-mul-with-comma Inv-loop μ-loop
-mul-with-comma c =
-    let l = c .before .loop in
-    let a = c .before .before .before .before .before .args in
-    let k-le = backwards-count (a .n) (a .chain .now) (a .k) (valid (c .before .before .before .before .before)) in
-    rw (l .inv .1 .count-is)
-    (omega (arith, share-lt (l .left) (suc (l .commas)) (l .commas) (omega (arith, l .inv .1 .within)) (omega arith)))
+cast-share : tie.Need-cast-share Inv-loop μ-loop
+cast-share c =
+    let start = c .before .before .before .before .before in
+    let a = start .args in
+    record { fits = omega (arith, backwards-count (a .n) (a .chain .now) (a .k) (valid start), c .before .loop .inv .0, start .pre .0) }
 
-div-with-comma : tie.Need-div-with-comma Inv-loop μ-loop
-div-with-comma c = omega (arith, two c)
+mul-share : tie.Need-mul-share Inv-loop μ-loop
+mul-share c = record { fits = share-fits (c .before .loop .inv .1) (c .before .before .before .before .before .pre .0) }
+
+share-requires : tie.Need-share-requires Inv-loop μ-loop
+share-requires c κs = (omega (arith, two c), share-whole (c .before .loop .inv .1) (c .loop-test .taken))
 
 add-rank : tie.Need-add-rank Inv-loop μ-loop
 add-rank c =
-    let start = c .before .before .before .before .before .before in
+    let start = c .before .before .before .before .before .before .before in
     let a = start .args in
-    let next = walked-plus (c .before .before .loop .inv .1) (c .before .loop-test .taken) (omega arith) in
-    omega (arith, next .rank-is, rank-lt (a .n) (a .chain .now) (a .k) (valid start) (omega arith))
+    let next = walked-plus (c .before .before .before .loop .inv .1) (c .before .before .loop-test .taken) (omega arith) in
+    omega (arith, c .before .share .ensures, next .rank-is, rank-lt (a .n) (a .chain .now) (a .k) (valid start) (omega arith))
 
 sub-count : tie.Need-sub-count Inv-loop μ-loop
-sub-count c = share-le (c .before .before .loop .inv .1) (c .before .loop-test .taken)
+sub-count c = rw (c .before .share .ensures) (share-le (c .before .before .before .loop .inv .1) (c .before .before .loop-test .taken))
 
 sub-d : tie.Need-sub-d Inv-loop μ-loop
 sub-d c = omega arith
 
 loop-less : tie.Need-loop-less Inv-loop μ-loop
-loop-less c = omega (arith, two (c .before))
+loop-less c = omega (arith, two (c .before .before))
 
 loop-again : tie.Need-loop-again Inv-loop μ-loop
-loop-again c = (omega arith, walked-plus (c .before .before .loop .inv .1) (c .before .loop-test .taken) (omega arith))
+loop-again c = (
+  c .before .before .before .loop .inv .0,
+  rw (c .before .share .ensures)
+      (walked-plus (c .before .before .before .loop .inv .1) (c .before .before .loop-test .taken) (omega arith)),
+)
 
 mul-degree-of-2 : tie.Need-mul-degree-of-2 Inv-loop μ-loop
 mul-degree-of-2 c = search needs
@@ -130,14 +145,14 @@ sub-commas-2 : tie.Need-sub-commas-2 Inv-loop μ-loop
 sub-commas-2 c = omega arith
 
 loop-less-2 : tie.Need-loop-less-2 Inv-loop μ-loop
-loop-less-2 c = omega (arith, two (c .before .before .before))
+loop-less-2 c = omega (arith, two (c .before .before .before .before))
 
 loop-again-2 : tie.Need-loop-again-2 Inv-loop μ-loop
 loop-again-2 c =
-    let l = c .before .before .before .before .loop in
-    let chain = c .before .before .before .before .before .before .before .before .args .chain .now in
-    let more = degrees-step chain (l .commas) (c .before .before .before .loop-test .taken) (c .degree-of2 .ensures) in
-    (omega arith, walked-comma (rw more at (l .inv .1)) (omega arith))
+    let l = c .before .before .before .before .before .loop in
+    let chain = c .before .before .before .before .before .before .before .before .before .args .chain .now in
+    let more = degrees-step chain (l .commas) (c .before .before .before .before .loop-test .taken) (c .degree-of2 .ensures) in
+    (omega (arith, l .inv .0), rw (c .before .before .before .share .ensures) (walked-comma (rw more at (l .inv .1)) (omega arith)))
 
 returns : tie.Need-returns Inv-loop μ-loop
 returns c =
@@ -157,8 +172,9 @@ composition-rank-spec =
     degree-of-requires
     loop-holds
     sub-left
-    mul-with-comma
-    div-with-comma
+    cast-share
+    mul-share
+    share-requires
     add-rank
     sub-count
     sub-d

@@ -38,19 +38,22 @@ rank10-requires c κs =
     (omega (arith, counted start), (c .word-count .ensures, word))
 
 cast-place : tie.Need-cast-place
-cast-place c = omega (arith, counted (c .before .before .before .before .before .before))
+cast-place c = search needs
+
+cast-place-2 : tie.Need-cast-place-2
+cast-place-2 c = omega (arith, counted (c .before .before .before .before .before .before))
 
 sub-place : tie.Need-sub-place
 sub-place c = omega (arith, counted (c .before .before .before .before .before .before))
 
-cast-place-2 : tie.Need-cast-place-2
-cast-place-2 c = search needs
+cast-place-3 : tie.Need-cast-place-3
+cast-place-3 c = search needs
 
 shl-place : tie.Need-shl-place
 shl-place c = search needs
 
-cast-place-3 : tie.Need-cast-place-3
-cast-place-3 c = search needs
+cast-place-4 : tie.Need-cast-place-4
+cast-place-4 c = search needs
 
 add-place : tie.Need-add-place
 add-place c =
@@ -111,10 +114,11 @@ sequence-position-spec =
     word-count-requires
     rank10-requires
     cast-place
-    sub-place
     cast-place-2
-    shl-place
+    sub-place
     cast-place-3
+    shl-place
+    cast-place-4
     add-place
     mul-result
     add-result

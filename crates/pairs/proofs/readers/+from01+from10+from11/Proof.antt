@@ -2,9 +2,13 @@
 use mathlib.Core.Bool.{true, false}
 use mathlib.Core.Path.{_≡_, sym, _∙_}
 use Prim.Native.Nat.{ℕ, _+_, _-_, _*_, _/_, _%_, _^_, _≤_, _<_}
-use native.Mathlib.Nat.{pos-of-ne-zero}
+use native.Mathlib.Nat.{pos-of-ne-zero, zero-add, zero-mul, mul-zero, mul-one, sub-zero}
+use native.Mathlib.Decide.{decLt}
 use native.Mathlib.Omega.{arith}
 use borrow.Author.Needs.{needs}
+use borrow.Author.Tests.{lt-leb, le-leb}
+use mir.Val.{boolByte}
+use lib.Dec.{leb}
 use lib.ListN.{length}
 use lib.Pow.{pow-mono}
 use Rattle.poly.proofs.Shifts.{one-shl}
@@ -92,6 +96,50 @@ module _ {s : State} {t m i z o : ℕ} (h : Here s t m i z o) where
     gives-1 : 1 * 2 ^ (m - 1) % 2 ^ 32 + x ≡ numberAt s m i
     gives-1 = rw (one-shl 32 (m - 1) (omega arith), e) (first-1 s m i z (h .pos) (h .fits) (h .shares .zeros) l)
 
+-- from (0,1) the letter is a number, and half of the words begin with each
+data Letter (half i letter : ℕ) : Type 0 where
+  zero-letter : letter ≡ 0 → i < half → Letter half i letter
+  one-letter : letter ≡ 1 → half ≤ i → Letter half i letter
+
+letter-of : (half i : ℕ) → Letter half i (boolByte (leb half i))
+letter-of half i = elim (decLt i half) [
+  | yes h ↦ zero-letter (rw (lt-leb half i h)) h
+  | no h ↦ one-letter (rw (le-leb half i (omega arith))) (omega arith)
+]
+
+small : {half i letter : ℕ} → Letter half i letter → letter ≤ 1
+small (zero-letter e l) = omega arith
+small (one-letter e l) = omega arith
+
+nothing : (k x : ℕ) → 0 * 2 ^ k % 2 ^ 32 + x ≡ x
+nothing k x = rw (zero-mul (2 ^ k)) (zero-add x)
+
+module _ {t m i half : ℕ} (h : Here s01 t m i half half) where
+  abbrev Asks : ℕ → Type 0
+  Asks j = (m - 1 < t) × ((m - 1 ≤ 31) × ((half ≡ length (wordsFrom s10 (m - 1))) × (j < half)))
+
+  before-le : {letter : ℕ} → Letter half i letter → half * letter ≤ i
+  before-le (zero-letter e l) = rw (e, mul-zero half) (omega arith)
+  before-le (one-letter e l) = rw (e, mul-one half) l
+
+  asks : {letter : ℕ} → Letter half i letter → Asks (i - half * letter)
+  asks (zero-letter e l) = rw (e, mul-zero half, sub-zero i) (asks-0 h l)
+  asks (one-letter e l) = rw (e, mul-one half) (asks-1 h l)
+
+  letter-fits : {letter x : ℕ} → Letter half i letter → x ≡ numberAt s10 (m - 1) (i - half * letter)
+      → letter * 2 ^ (m - 1) % 2 ^ 32 + x < 2 ^ 32
+  letter-fits {x = x} (zero-letter e l) is =
+      let low : x < 2 ^ (m - 1) =
+      rw (is, e, mul-zero half, sub-zero i) (numberAt-lt s10 (m - 1) i (rw (h .shares .zeros) at l)) in
+      rw (e, nothing (m - 1) x) (omega (arith, h .few, pow-mono {i = m - 1} {j = 30} (omega (arith, h .few))))
+  letter-fits (one-letter e l) is = rw e (sum-fits h l (rw (e, mul-one half) at is))
+
+  gives : {letter x : ℕ} → Letter half i letter → x ≡ numberAt s10 (m - 1) (i - half * letter)
+      → letter * 2 ^ (m - 1) % 2 ^ 32 + x ≡ numberAt s01 m i
+  gives {x = x} (zero-letter e l) is =
+      rw (e, nothing (m - 1) x) (gives-0 h l (rw (e, mul-zero half, sub-zero i) at is))
+  gives (one-letter e l) is = rw e (gives-1 h l (rw (e, mul-one half) at is))
+
 -- what a reader is given
 abbrev Given : State → ℕ → ℕ → ℕ → ℕ → Type 0
 Given s t m i count = (m ≡ t) × ((m ≤ 31) × ((count ≡ length (wordsFrom s m)) × (i < count)))
@@ -129,12 +177,14 @@ pub +from01+from10+from11-spec : {M : Type 1} → statement M
 +from01+from10+from11-spec = close μ-from01 μ-from10 μ-from11
     (λ t. from01-lts.spec (from10-below t, from10.Post) (from01-at t) from01.Post
     (λ c. one (c .pre))
-    (λ c κs. asks-0 (here01 (c .before .pre)) (c .if1 .taken))
-    (λ c. gives-0 (here01 (c .before .before .pre)) (c .before .if1 .taken) (c .from10 .ensures))
+    (λ c. search needs)
     (λ c. omega arith)
-    (λ c κs. asks-1 (here01 (c .before .pre)) (c .if1 .left))
-    (λ c. record { fits = sum-fits (here01 (c .before .before .pre)) (c .before .if1 .left) (c .from102 .ensures) })
-    (λ c. gives-1 (here01 (c .before .before .pre)) (c .before .if1 .left) (c .from102 .ensures)))
+    (λ c. record { fits = omega (arith, small (letter-of (c .args .count / 2) (c .args .i))) })
+    (λ c. record { fits = omega (arith, before-le (here01 (c .pre)) (letter-of _ (c .args .i)), c .fits .i .fits) })
+    (λ c. before-le (here01 (c .pre)) (letter-of _ (c .args .i)))
+    (λ c κs. asks (here01 (c .pre)) (letter-of _ (c .args .i)))
+    (λ c. record { fits = letter-fits (here01 (c .before .pre)) (letter-of _ (c .before .args .i)) (c .from10 .ensures) })
+    (λ c. gives (here01 (c .before .pre)) (letter-of _ (c .before .args .i)) (c .from10 .ensures)))
     (λ t. from10-lts.spec (from01-below t, from01.Post, from11-below t, from11.Post) (from10-at t) from10.Post
     (λ c. sym (numberAt-none _ _ (c .if1 .taken) (fit s10 (c .before .pre))))
     (λ c. pos-of-ne-zero (c .if1 .left))

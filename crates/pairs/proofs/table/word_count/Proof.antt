@@ -5,7 +5,7 @@ use mathlib.Core.Path.{_≡_}
 use Prim.Native.Nat.{ℕ, _+_, _*_, _%_, _^_, _<_}
 use native.Mathlib.Omega.{arith}
 use borrow.Author.Needs.{needs}
-use lib.Dec.{eqb, eqb→eq}
+use lib.Dec.{eqb, eqb→eq, ltb, ltb→lt}
 use lib.ListN.{length, getD}
 use Rattle.pairs.specs.Words.{words}
 use Rattle.pairs.proofs.Entries.{entry}
@@ -29,15 +29,23 @@ right k h =
     eqb→eq (3 * getD table k 0 + 4 * (k % 2)) (2 ^ k + 2) (entry closed table tt k h) in
     omega (arith, words-closed k)
 
+small : (k : ℕ) → k < 32 → getD table k 0 < 2 ^ 64
+unfolding table
+small k h = ltb→lt (getD table k 0) (2 ^ 64) (entry (λ k x. ltb x (2 ^ 64)) table tt k h)
+
 mul-result : tie.Need-mul-result
 mul-result c = search needs
 
 array-read-result : tie.Need-array-read-result
 array-read-result c = search needs
 
+cast-result : tie.Need-cast-result
+unfolding table
+cast-result c = record { fits = small (c .args .k) (search needs) }
+
 returns : tie.Need-returns
 unfolding table
 returns c = right (c .args .k) (search needs)
 
 pub word-count-spec : {M : Type 1} → statement M
-word-count-spec = tie.close (tie.spec mul-result array-read-result returns)
+word-count-spec = tie.close (tie.spec mul-result array-read-result cast-result returns)

@@ -1,7 +1,7 @@
 -- `times` meets its contract. The invariant: the sum is the product of b and the bits of a that were read, a / 2^left.
 use mathlib.Core.Path.{_≡_, sym, ap, ap₂, _∙_}
 use Prim.Native.Nat.{ℕ, suc, _+_, _-_, _*_, _/_, _%_, _^_, _≤_, _<_}
-use native.Mathlib.Nat.{le-refl, div-one, div-eq-of-lt, mod-eq-of-lt, div-div-eq-div-mul, mul-le-mul-right, pow-suc, lt-of-lt-of-le}
+use native.Mathlib.Nat.{le-refl, div-one, div-eq-of-lt, mod-eq-of-lt, div-div-eq-div-mul, pow-suc, lt-of-lt-of-le}
 use native.Mathlib.Numerals.{add-one}
 use native.Mathlib.Omega.{arith}
 use borrow.Author.Needs.{needs}
@@ -58,28 +58,27 @@ loop-holds c = (omega (arith, few c), none (c .before .args .a) (c .before .args
 sub-left : tie.Need-sub-left Inv-loop μ-loop
 sub-left c = c .loop-test .taken
 
-shr-sum : tie.Need-shr-sum Inv-loop μ-loop
-shr-sum c = omega arith
+shr-scaled : tie.Need-shr-scaled Inv-loop μ-loop
+shr-scaled c = omega arith
+
+scaled-requires : tie.Need-scaled-requires Inv-loop μ-loop
+scaled-requires c κs = search needs
 
 cast-sum : tie.Need-cast-sum Inv-loop μ-loop
-cast-sum c = omega arith
-
-mul-sum : tie.Need-mul-sum Inv-loop μ-loop
-mul-sum c =
-    let bit : ℕ = c .before .before .before .args .a / 2 ^ (c .before .loop .left - 1) % 2 in
-    let b : ℕ = c .before .before .before .args .b in
-    let l : bit * b ≤ 1 * b = mul-le-mul-right b (omega arith) in
-    record { fits = omega arith }
+cast-sum c = search needs
 
 loop-less : tie.Need-loop-less Inv-loop μ-loop
 loop-less c = omega arith
 
 loop-again : tie.Need-loop-again Inv-loop μ-loop
-loop-again c = (
-  omega arith,
-  turn (c .before .before .before .args .a) (c .before .before .before .args .b) (c .before .loop .left) (c .before .loop .sum)
-      (c .before .before .before .fits .a .fits) (c .before .before .before .fits .b .fits) (c .loop-test .taken) (c .before .loop .inv .1),
-)
+loop-again c =
+    let start = c .before .before .before .before in
+    let l = c .before .before .loop in (
+      omega arith,
+      rw (c .scaled .ensures)
+          (turn (start .args .a) (start .args .b) (l .left) (l .sum) (start .fits .a .fits) (start .fits .b .fits)
+          (c .before .loop-test .taken) (l .inv .1)),
+    )
 
 returns : tie.Need-returns Inv-loop μ-loop
 returns c =
@@ -96,9 +95,9 @@ times-spec =
     add-left
     loop-holds
     sub-left
-    shr-sum
+    shr-scaled
+    scaled-requires
     cast-sum
-    mul-sum
     loop-less
     loop-again
     returns)
