@@ -1,15 +1,11 @@
 -- What tests say: `outside`, of which this is the only file of this crate that looks inside it, and flags.
-use mathlib.Core.Path.{_≡_, refl, sym, _∙_}
+use mathlib.Core.Path.{_≡_, sym, _∙_}
 use Prim.Native.Nat.{ℕ, _≤_, _<_}
-use mathlib.Core.Bool.{Bool, true, false, not, _||_}
+use mathlib.Core.Bool.{Bool, true, false, not, or-true}
 use lib.Dec.{ltb}
 use borrow.Author.Tests.{lt-ltb, le-ltb, ltb-false, not-true, not-false}
 use Rattle.poly.specs.Limits.{outside}
 use Rattle.trial.proofs.Parser.{or-false}
-
-pub or-true : (a : Bool) → (a || true) ≡ true
-or-true true = refl
-or-true false = refl
 
 -- A test `if !r`, where r denies b.
 pub denied : (r b : Bool) → r ≡ not b → not r ≡ true → b ≡ true

@@ -1,21 +1,20 @@
--- Both passes over a list of levels in the file, one that checks and one that stores: the levels passed are listed nearest first, and the
--- parser of the whole list is where the parser of what is left is.
+-- The passes over a list of levels, in the file and in memory: the levels passed are listed nearest first, and what is said of the whole
+-- list is said of what is left.
 use mathlib.Core.Path.{_≡_, refl, sym, _∙_}
 use Prim.Native.Nat.{ℕ, suc, _+_, _-_, _≤_, _<_}
-use mathlib.Core.Bool.{false, true, _||_}
+use mathlib.Core.Bool.{Bool, false, true, not, _||_, or-true, or-false, Bool·not-not}
 use mathlib.Core.List.{List, [], _∷_, _++_, reverse, reverse-cons}
 use native.Mathlib.Nat.{sub-zero}
 use native.Mathlib.Numerals.{add-one}
 use native.Mathlib.Omega.{arith}
-use lib.ListN.{length, getD, drop, set, length-append, length-set, length-reverse}
-use lib.Seq.{drop-cons, append-snoc, set-append-seam}
-use lib.Dec.{ltb, leb·suc-zero, leb·suc-suc}
-use borrow.Author.Tests.{lt-ltb, le-ltb}
+use lib.ListN.{length, getD, take, drop, drop-of-length-le, set, length-append, length-set, length-reverse}
+use lib.Seq.{drop-cons, append-snoc, take-append-seam, set-append-seam}
+use lib.Dec.{leb, ltb, leb·suc-zero, leb·suc-suc}
+use borrow.Author.Tests.{lt-ltb, le-ltb, le-leb, lt-leb}
 use Rattle.trial.specs.Parser.{parsed, failed, resume}
 use Rattle.trial.specs.Number.{number, field}
 use Rattle.trial.specs.Levels.{outOfOrder, anyOutOfOrder, disordered, levelCauses, parseLevels}
 use Rattle.trial.specs.Replies.{over}
-use Rattle.trial.proofs.Parser.{Clear, with-parsed, checked-parsed}
 
 pub record Passed (file : List ℕ) (at count next i : ℕ) (before : List ℕ) : Type 0 where
   pub size : length before ≡ i
@@ -44,15 +43,6 @@ module _ {file : List ℕ} {at count next i : ℕ} {before : List ℕ} (p : Pass
       pub disorder : level ≤ 65535 → outOfOrder before level ≡ true → parseLevels count [] (drop at file) ≡ failed 14
       disorder h o = rw (next-level, e, le-ltb 65535 level h, o)
 
-    -- Where the whole list parses, the next level passes.
-    pub passes : {level : ℕ} {behind levels rest : List ℕ} → number (drop next file) ≡ parsed level behind
-        → parseLevels count [] (drop at file) ≡ parsed levels rest → Clear (levelCauses before level)
-    passes {level} e whole =
-        with-parsed (field (levelCauses before)) _ (drop next file) (sym next-level ∙ whole) λ level′ rest′ first then.
-        let c = checked-parsed number (levelCauses before) (drop next file) first in
-        let same : level′ ≡ level = cc (c .1) in
-        rw same at (c .0)
-
     pub one-passed : (level behind : ℕ) → number (drop next file) ≡ parsed level (drop behind file) → level ≤ 65535
         → outOfOrder before level ≡ false → Passed file at count behind (i + 1) (level ∷ before)
     one-passed level behind e h o =
@@ -67,59 +57,82 @@ pub order-least : (before : List ℕ) (level : ℕ) → outOfOrder before level 
 order-least [] level = sym (leb·suc-zero level)
 order-least (previous ∷ earlier) level = sym (leb·suc-suc level previous)
 
--- What holds at the head of the loop that checks: `floor` is the least level that may follow.
-pub record Checking (file : List ℕ) (at count next floor i : ℕ) : Type 0 where
-  pub before : List ℕ
-  pub passed : Passed file at count next i before
-  pub floor-is : floor ≡ least before
-  pub inside : next ≤ length file
+-- One value more at the front of a slice.
+pub over-more : (front slice : List ℕ) {i : ℕ} (value : ℕ) → length front ≡ i → i < length slice
+    → set (over front slice) i value ≡ over (front ++ (value ∷ [])) slice
+over-more front slice value place h =
+    let more : length front < length slice = rw place h in
+    rw (← place, drop-cons slice (length front) 0 more, set-append-seam, length-append, add-one, append-snoc)
 
--- What holds at the head of the loop that checks a list in memory.
-pub record Ordering (levels : List ℕ) (floor i : ℕ) : Type 0 where
-  pub before : List ℕ
-  pub same : disordered levels ≡ anyOutOfOrder before (drop i levels)
-  pub floor-is : floor ≡ least before
-  pub few : i ≤ length levels
-
-module _ {levels : List ℕ} {floor i : ℕ} (s : Ordering levels floor i) (level : ℕ) (there : i < length levels)
-    (e : level ≡ getD levels i 0) where
-  first-of : disordered levels ≡ (ltb level floor || anyOutOfOrder (level ∷ s .before) (drop (suc i) levels))
-  first-of = rw (s .same, drop-cons levels i 0 there, ← e, order-least (s .before) level, s .floor-is)
-
-  pub not-ordered : level < floor → disordered levels ≡ true
-  not-ordered h = rw (first-of, lt-ltb level floor h)
-
-  pub one-ordered : floor ≤ level → Ordering levels (level + 1) (i + 1)
-  one-ordered h =
-      record {
-        before = level ∷ s .before;
-        same = rw (first-of, le-ltb level floor h, add-one i);
-        floor-is = add-one level;
-        few = omega arith;
-      }
-
--- What holds at the head of the loop that stores.
-pub record Storing (file : List ℕ) (at count : ℕ) (out₀ out : List ℕ) (next i : ℕ) : Type 0 where
+-- What holds at the head of the loop that reads: the levels passed are at the front of the slice, and `floor` is the least that may follow.
+pub record Storing (file : List ℕ) (at count : ℕ) (out₀ out : List ℕ) (next floor i : ℕ) : Type 0 where
   pub before : List ℕ
   pub passed : Passed file at count next i before
   pub stored : out ≡ over (reverse before) out₀
   pub kept : length out ≡ length out₀
+  pub floor-is : floor ≡ least before
+  pub inside : next ≤ length file
 
--- One value more at the front of a slice.
-over-more : (front slice : List ℕ) (value : ℕ) → length front < length slice
-    → set (over front slice) (length front) value ≡ over (front ++ (value ∷ [])) slice
-over-more front slice value h =
-    rw (drop-cons slice (length front) 0 h, set-append-seam, length-append, add-one, append-snoc)
+module _ {file : List ℕ} {at count : ℕ} {out₀ out : List ℕ} {next floor i : ℕ} (s : Storing file at count out₀ out next floor i) where
+  place : length (reverse (s .before)) ≡ i
+  place = length-reverse (s .before) ∙ s .passed .size
 
-module _ {file : List ℕ} {at count : ℕ} {out₀ out : List ℕ} {next i : ℕ} (s : Storing file at count out₀ out next i) where
+  pub all-stored : count ≤ i → parsed (take count out) (drop next file) ≡ parseLevels count [] (drop at file)
+  all-stored h =
+      let end : count ≡ length (reverse (s .before)) = omega (arith, s .passed .few, place) in
+      let front : take count out ≡ reverse (s .before) =
+      rw (s .stored, end) (take-append-seam (reverse (s .before)) _) in
+      rw (all-passed (s .passed) h, front)
+
   pub one-stored : (level behind : ℕ) → i < length out₀ → Passed file at count behind (i + 1) (level ∷ s .before)
-      → Storing file at count out₀ (set out i level) behind (i + 1)
-  one-stored level behind h passed =
-      let place : length (reverse (s .before)) ≡ i = length-reverse (s .before) ∙ s .passed .size in
-      let more : length (reverse (s .before)) < length out₀ = rw place h in
+      → behind ≤ length file → Storing file at count out₀ (set out i level) behind (level + 1) (i + 1)
+  one-stored level behind h passed inside =
       record {
         before = level ∷ s .before;
         passed = passed;
-        stored = rw (s .stored, reverse-cons, ← place) (over-more (reverse (s .before)) out₀ level more);
+        stored = rw (s .stored, reverse-cons) (over-more (reverse (s .before)) out₀ level place h);
         kept = rw (length-set, s .kept);
+        floor-is = add-one level;
+        inside = inside;
       }
+
+-- What holds at the head of the loop that checks a list in memory: either a level passed is out of order, or it is for those left to say.
+pub record Ordering (levels : List ℕ) (good : Bool) (i : ℕ) : Type 0 where
+  pub earlier : List ℕ
+  pub same : disordered levels ≡ (not good || anyOutOfOrder (getD levels (i - 1) 0 ∷ earlier) (drop i levels))
+  pub begun : 1 ≤ i
+
+pub first-ordered : (levels : List ℕ) → Ordering levels true 1
+first-ordered [] = record { earlier = []; same = refl; begun = omega arith }
+first-ordered (level ∷ levels) = record { earlier = []; same = refl; begun = omega arith }
+
+module _ {levels : List ℕ} {good : Bool} {i : ℕ} (s : Ordering levels good i) where
+  pub all-ordered : length levels ≤ i → good ≡ not (disordered levels)
+  all-ordered h = rw (s .same, drop-of-length-le levels h, or-false, Bool·not-not)
+
+  module _ (there : i < length levels) where
+    abbrev previous : ℕ
+    previous = getD levels (i - 1) 0
+
+    abbrev level : ℕ
+    level = getD levels i 0
+
+    here : disordered levels ≡ (not good || (leb level previous || anyOutOfOrder (level ∷ previous ∷ s .earlier) (drop (suc i) levels)))
+    here = rw (s .same, drop-cons levels i 0 there)
+
+    pub not-ordered : level ≤ previous → Ordering levels false (i + 1)
+    not-ordered h =
+        record {
+          earlier = previous ∷ s .earlier;
+          same = rw (here, le-leb level previous h) (or-true (not good));
+          begun = omega arith;
+        }
+
+    pub one-ordered : previous < level → Ordering levels good (i + 1)
+    one-ordered h =
+        let back : i + 1 - 1 ≡ i = omega arith in
+        record {
+          earlier = previous ∷ s .earlier;
+          same = rw (back, add-one i, here, lt-leb level previous h);
+          begun = omega arith;
+        }

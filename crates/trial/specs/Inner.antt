@@ -21,7 +21,7 @@ use Rattle.trial.specs.declared.reader.Verdict.the-variants.{Accepted, R
 use Rattle.trial.specs.Parser.{Parsed, parsed, failed, Parser, _>>=_, checked}
 use Rattle.trial.specs.Number.{above, parseGroups, ceilingCauses}
 use Rattle.trial.specs.Levels.{parseLevels}
-use Rattle.trial.specs.Trial.{Head, Trial, encodeBody, parseName, parseEnd, parseBody, parse}
+use Rattle.trial.specs.Trial.{Head, Trial, encodeBody, parseName, parseEnd}
 
 -- A number and the bytes behind it.
 abbrev pub numberParsed : List ℕ → ReadNumber → Parsed ℕ
@@ -59,35 +59,19 @@ pub record HeadRead (parser : Parser Head) (file : List ℕ) (at : ℕ) (r : Rea
   pub says : headParsed file r ≡ parser (drop at file)
   pub inside : HeadInside file r
 
--- What a parser leaves: the bytes behind what it read.
-abbrev pub behind : {A : Type 0} → Parsed A → Parsed Unit
-behind (parsed value rest) = parsed tt rest
-behind (failed number) = failed number
+-- A list of levels, read to the front of a slice, and the bytes behind it.
+abbrev pub listParsed : List ℕ → ℕ → List ℕ → Behind → Parsed (List ℕ)
+listParsed file count out (At next) = parsed (take count out) (drop next file)
+listParsed file count out (Impassable why) = failed (numberOf why)
 
-abbrev pub behindParsed : List ℕ → Behind → Parsed Unit
-behindParsed file (At next) = parsed tt (drop next file)
-behindParsed file (Impassable why) = failed (numberOf why)
+abbrev pub ListInside : List ℕ → Behind → Type 0
+ListInside file (At next) = next ≤ length file
+ListInside file (Impassable why) = Unit
 
-abbrev pub BehindInside : List ℕ → Behind → Type 0
-BehindInside file (At next) = next ≤ length file
-BehindInside file (Impassable why) = Unit
-
--- The answer is what the parser leaves at the position.
-pub record Passes {A : Type 0} (parser : Parser A) (file : List ℕ) (at : ℕ) (r : Behind) : Type 0 where
-  pub says : behindParsed file r ≡ behind (parser (drop at file))
-  pub inside : BehindInside file r
-
--- The levels that a parser read.
-abbrev pub valuesOf : Parsed (List ℕ) → List ℕ
-valuesOf (parsed values rest) = values
-valuesOf (failed number) = []
-
--- At the position of the file stand so many levels, for which the slice has room.
-pub record LevelsThere (file : List ℕ) (at count : ℕ) (out : List ℕ) : Type 0 where
-  pub levels : List ℕ
-  pub rest : List ℕ
-  pub parses : parseLevels count [] (drop at file) ≡ parsed levels rest
-  pub room : count ≤ length out
+-- The answer, with the slice afterwards, is what the parser of so many levels gives at the position.
+pub record ListRead (file : List ℕ) (at count : ℕ) (r : Behind) (out : List ℕ) : Type 0 where
+  pub says : listParsed file count out r ≡ parseLevels count [] (drop at file)
+  pub inside : ListInside file r
 
 -- The name and that nothing stands behind it.
 abbrev pub nameParsed : List ℕ → ReadName → Parsed (List ℕ)
@@ -103,28 +87,29 @@ pub record NameRead (file : List ℕ) (at : ℕ) (r : ReadName) : Type 0 where
   pub says : nameParsed file r ≡ (parseName >>= parseEnd) (drop at file)
   pub inside : NameInside file r
 
--- The lists and the name of a content stand where the layout says.
-pub record LaidOut (file : List ℕ) (t : Trial) (layout : Layout) : Type 0 where
-  pub head : headOf (layout .head) ≡ t .head
-  pub low : layout .head .degree ≤ 6
-  pub rest : List ℕ
-  pub powers : parseLevels (2 ^ layout .head .degree) [] (drop (layout .powers) file) ≡ parsed (t .powers) (drop (layout .forces) file)
-  pub forces : parseLevels (2 ^ layout .head .degree) [] (drop (layout .forces) file) ≡ parsed (t .forces) rest
-  pub name : take (layout .size) (drop (layout .name) file) ≡ t .name
-  pub size : length (t .name) ≡ layout .size
-  pub end : layout .name + layout .size ≡ length file
+-- The content of an accepted file: its lists at the front of two slices, and its name where the layout says.
+abbrev pub contentOf : List ℕ → List ℕ → List ℕ → Layout → Trial
+contentOf file powers forces layout =
+    record {
+      head = headOf (layout .head);
+      powers = take (2 ^ layout .head .degree) powers;
+      forces = take (2 ^ layout .head .degree) forces;
+      name = take (layout .size) (drop (layout .name) file);
+    }
 
--- A parsed content with its layout, or the number of the refusal.
-abbrev pub Settles : List ℕ → Parsed Trial → Verdict → Type 0
-Settles file answer (Accepted layout) = (t : Trial) × (answer ≡ parsed t []) × LaidOut file t layout
-Settles file answer (Unaccepted why) = answer ≡ failed (numberOf why)
+abbrev pub trialParsed : List ℕ → List ℕ → List ℕ → Verdict → Parsed Trial
+trialParsed file powers forces (Accepted layout) = parsed (contentOf file powers forces layout) []
+trialParsed file powers forces (Unaccepted why) = failed (numberOf why)
 
-abbrev pub Surveys : List ℕ → Verdict → Type 0
-Surveys file r = Settles file (parse file) r
+-- The degree is a sheet's, and the name reaches to the end of the file.
+abbrev pub TrialInside : List ℕ → Verdict → Type 0
+TrialInside file (Accepted layout) = (layout .head .degree ≤ 6) × (layout .name + layout .size ≡ length file)
+TrialInside file (Unaccepted why) = Unit
 
--- The same behind the head, from the powers on.
-abbrev pub BodySurveys : List ℕ → CodeHead → ℕ → Verdict → Type 0
-BodySurveys file head powers r = Settles file (parseBody (headOf head) (drop powers file)) r
+-- The answer, with both slices afterwards, is what the parser of a content gives at the position.
+pub record Surveys (parser : Parser Trial) (file : List ℕ) (at : ℕ) (r : Verdict) (powers forces : List ℕ) : Type 0 where
+  pub says : trialParsed file powers forces r ≡ parser (drop at file)
+  pub inside : TrialInside file r
 
 -- Lists and a name that the writer's sums cannot overflow with.
 pub record Short (powers forces name : List ℕ) : Type 0 where

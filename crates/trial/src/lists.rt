@@ -5,25 +5,24 @@ use crate::numbers::read_number;
 use crate::numbers::width;
 use reply::Refusal;
 ghost use mathlib.Core.Path.{_≡_};
-ghost use mathlib.Core.List.{[]};
 ghost use mathlib.Core.Bool.{not};
 ghost use Prim.Native.Nat.{_+_, _≤_};
-ghost use lib.ListN.{length, drop};
+ghost use lib.ListN.{length, take};
 ghost use Rattle.trial.specs.Number.{encodeNumbers};
-ghost use Rattle.trial.specs.Levels.{disordered, parseLevels};
+ghost use Rattle.trial.specs.Levels.{disordered};
 ghost use Rattle.trial.specs.Replies.{over};
-ghost use Rattle.trial.specs.Inner.{Passes, LevelsThere, valuesOf, Puts};
+ghost use Rattle.trial.specs.Inner.{ListRead, Puts};
 
-// The position behind what was checked, or what it is refused for.
+// The position behind a list of levels, or what it is refused for.
 pub(crate) enum Behind {
     At(usize),
     Refused(Refusal),
 }
 
-// Checks so many levels at a position of the file.
-pub(crate) fn check_levels(file: &[u8], at: usize, count: usize) -> Behind
-    requires { ⌜ at ≤ length (now file) ⌝ }
-    ensures { λ r. ⌜ Passes (parseLevels count []) (now (file .entry)) at r ⌝ }
+// Reads so many levels at a position of the file to the front of `out`; where they are refused, some may be there already.
+pub(crate) fn read_levels(file: &[u8], at: usize, count: usize, out: &mut [u16]) -> Behind
+    requires { ⌜ (at ≤ length (now file)) × (count ≤ length (now out)) ⌝ }
+    ensures { λ r. ⌜ ListRead (now (file .entry)) at count r (now (out .exit)) ⌝ }
 {
     let mut next = at;
     let mut least: u32 = 0;
@@ -38,6 +37,7 @@ pub(crate) fn check_levels(file: &[u8], at: usize, count: usize) -> Behind
                 if level < least {
                     return Behind::Refused(Refusal::LevelOrder);
                 }
+                out[i] = level as u16;
                 least = level + 1;
                 next = behind;
             }
@@ -47,21 +47,14 @@ pub(crate) fn check_levels(file: &[u8], at: usize, count: usize) -> Behind
     Behind::At(next)
 }
 
-// Stores so many levels, which were checked at a position of the file, at the front of `out`.
-pub(crate) fn store_levels(file: &[u8], at: usize, count: usize, out: &mut [u16])
-    requires { ⌜ LevelsThere (now file) at count (now out) ⌝ }
-    ensures { λ _. ⌜ now (out .exit) ≡ over (valuesOf (parseLevels count [] (drop at (now (file .entry))))) (now (out .entry)) ⌝ }
+// Copies so many levels to the front of `out`.
+pub(crate) fn copy_levels(levels: &[u16], count: usize, out: &mut [u16])
+    requires { ⌜ (count ≤ length (now levels)) × (count ≤ length (now out)) ⌝ }
+    ensures { λ _. ⌜ now (out .exit) ≡ over (take count (now (levels .entry))) (now (out .entry)) ⌝ }
 {
-    let mut next = at;
     let mut i: usize = 0;
     while i < count {
-        match read_number(file, next) {
-            ReadNumber::Refused(_) => return,
-            ReadNumber::Value(level, behind) => {
-                out[i] = (level % 65536) as u16;
-                next = behind;
-            }
-        }
+        out[i] = levels[i];
         i += 1;
     }
 }
@@ -72,21 +65,19 @@ fn wide(level: u16) -> u32
     level as u32
 }
 
-// Whether the levels are in order.
+// Whether the levels are in order. It goes on behind a level that is not, so that several can be compared at once.
 pub(crate) fn ordered(levels: &[u16]) -> bool
     ensures { λ r. ⌜ r ≡ not (disordered (now (levels .entry))) ⌝ }
 {
-    let mut least: u32 = 0;
-    let mut i: usize = 0;
+    let mut good = true;
+    let mut i: usize = 1;
     while i < levels.len() {
-        let level = wide(levels[i]);
-        if level < least {
-            return false;
+        if levels[i] <= levels[i - 1] {
+            good = false;
         }
-        least = level + 1;
         i += 1;
     }
-    true
+    good
 }
 
 // How many bytes the levels take.

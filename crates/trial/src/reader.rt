@@ -1,17 +1,19 @@
-// The reader. It makes its whole decision before it stores a level, so that a refusal leaves both slices as they were.
+// The reader. It reads the levels into arrays of its own while it decides, and copies them only from an accepted file: each level is
+// decoded once, and a refusal leaves both lent slices as they were.
 use crate::fields::Head;
 use crate::fields::ReadHead;
 use crate::fields::read_head;
 use crate::lists::Behind;
-use crate::lists::check_levels;
-use crate::lists::store_levels;
+use crate::lists::copy_levels;
+use crate::lists::read_levels;
 use crate::names::ReadName;
 use crate::names::read_name;
 use reply::Refusal;
 ghost use mathlib.Core.Path.{_≡_};
 ghost use Prim.Native.Nat.{_^_, _≤_};
 ghost use lib.ListN.{length};
-ghost use Rattle.trial.specs.Inner.{Surveys, BodySurveys};
+ghost use Rattle.trial.specs.Trial.{parseBody, parse};
+ghost use Rattle.trial.specs.Inner.{headOf, Surveys};
 ghost use Rattle.trial.specs.Answers.{ReadDone, namePart, Opens};
 
 // How many levels a list has. `Degree::order` answers for every degree, with refusals; here the degree is known to be 6 at most.
@@ -22,11 +24,9 @@ pub(crate) fn order(degree: u32) -> usize
     1usize << degree
 }
 
-// An accepted file: its head, and where its lists and its name begin.
+// An accepted file but for its levels: its head, and where its name is.
 struct Layout {
     pub head: Head,
-    pub powers: usize,
-    pub forces: usize,
     pub name: usize,
     pub size: usize,
 }
@@ -36,33 +36,38 @@ enum Verdict {
     Refused(Refusal),
 }
 
-// The whole decision on a file.
-fn survey(file: &[u8]) -> Verdict
-    ensures { λ r. ⌜ Surveys (now (file .entry)) r ⌝ }
+// The whole decision on a file, with the levels of an accepted one at the front of the two slices.
+fn survey(file: &[u8], powers: &mut [u16], forces: &mut [u16]) -> Verdict
+    requires { ⌜ (64 ≤ length (now powers)) × (64 ≤ length (now forces)) ⌝ }
+    ensures { λ r. ⌜ Surveys parse (now (file .entry)) 0 r (now (powers .exit)) (now (forces .exit)) ⌝ }
 {
     match read_head(file) {
         ReadHead::Refused(why) => Verdict::Refused(why),
-        ReadHead::Found(head, at) => survey_body(file, head, at),
+        ReadHead::Found(head, at) => survey_body(file, head, at, powers, forces),
     }
 }
 
 // The same behind the head.
-fn survey_body(file: &[u8], head: Head, powers: usize) -> Verdict
-    requires { ⌜ (head .degree ≤ 6) × (powers ≤ length (now file)) ⌝ }
-    ensures { λ r. ⌜ BodySurveys (now (file .entry)) head powers r ⌝ }
+fn survey_body(
+    file: &[u8],
+    head: Head,
+    at: usize,
+    powers: &mut [u16],
+    forces: &mut [u16],
+) -> Verdict
+    requires { ⌜ (head .degree ≤ 6) × (at ≤ length (now file)) × (64 ≤ length (now powers)) × (64 ≤ length (now forces)) ⌝ }
+    ensures { λ r. ⌜ Surveys (parseBody (headOf head)) (now (file .entry)) at r (now (powers .exit)) (now (forces .exit)) ⌝ }
 {
     let degree = head.degree;
     let count = order(degree);
-    match check_levels(file, powers, count) {
+    match read_levels(file, at, count, powers) {
         Behind::Refused(why) => Verdict::Refused(why),
-        Behind::At(forces) => match check_levels(file, forces, count) {
+        Behind::At(at) => match read_levels(file, at, count, forces) {
             Behind::Refused(why) => Verdict::Refused(why),
             Behind::At(at) => match read_name(file, at) {
                 ReadName::Refused(why) => Verdict::Refused(why),
                 ReadName::Found { start, size } => Verdict::Accepted(Layout {
                     head,
-                    powers,
-                    forces,
                     name: start,
                     size,
                 }),
@@ -97,16 +102,16 @@ pub fn read(file: &[u8], powers: &mut [u16], forces: &mut [u16]) -> ReadTrial
     if forces.len() < 64 {
         return ReadTrial::Refused(Refusal::SliceLength);
     }
-    match survey(file) {
+    let mut powers_read = [0u16; 64];
+    let mut forces_read = [0u16; 64];
+    match survey(file, &mut powers_read, &mut forces_read) {
         Verdict::Refused(why) => ReadTrial::Refused(why),
         Verdict::Accepted(layout) => {
             let head = layout.head;
             let degree = head.degree;
             let count = order(degree);
-            let powers_at = layout.powers;
-            let forces_at = layout.forces;
-            store_levels(file, powers_at, count, powers);
-            store_levels(file, forces_at, count, forces);
+            copy_levels(&powers_read, count, powers);
+            copy_levels(&forces_read, count, forces);
             ReadTrial::Content(Content {
                 degree,
                 f: head.f,

@@ -9,29 +9,40 @@ use borrow.Author.Needs.{needs}
 use Rattle.trial.proofs.reader.survey.Statement.{statement}
 use Rattle.trial.proofs.reader.survey.Tie as tie
 
+-- The function's entry, from behind the head.
+abbrev entry : tie.After-read-head → tie.Start
+entry c = c .before .before .before .before
+
 head-told : (c : tie.After-head) →
-    let file = c .before .before .before .before .args .file .now in
+    let file = entry (c .before .before) .args .file .now in
     parseHead file ≡ parsed (headOf (c .head .given .0 .0)) (drop (c .head .given .0 .1 .0) file)
 head-told c =
-    sym (c .before .before .read-head .ensures .says) ∙ ap (headParsed (c .before .before .before .before .args .file .now))
-    (c .head .given .1)
+    let read = c .before .before in
+    sym (read .read-head .ensures .says) ∙ ap (headParsed (entry read .args .file .now)) (c .head .given .1)
 
 survey-body-requires : tie.Need-survey-body-requires
-survey-body-requires c κs = (
-  head-degree (c .before .before .before .before .before .args .file .now) (head-told (c .before)),
-  rw (c .before .head .given .1) at
-      (c .before .before .before .read-head .ensures .inside),
-)
+survey-body-requires c κs =
+    let head = c .before .before .before in
+    let read = head .before .before in
+    let start = entry read in (
+      head-degree (start .args .file .now) (head-told head),
+      rw (head .head .given .1) at (read .read-head .ensures .inside),
+      start .pre .0,
+      start .pre .1,
+    )
 
 returns : tie.Need-returns
 unfolding parse
 returns c =
-    rw (sym (c .before .before .before .read-head .ensures .says) ∙ ap
-    (headParsed (c .before .before .before .before .before .args .file .now)) (c .before .why .given .1))
+    let read = c .before .before .before in
+    let refused = sym (read .read-head .ensures .says) ∙ ap (headParsed (entry read .args .file .now)) (c .before .why .given .1) in
+    record { says = rw refused; inside = tt }
 
 returns-2 : tie.Need-returns-2
 unfolding parse
-returns-2 c = rw (head-told (c .before .before)) (c .survey-body .ensures)
+returns-2 c =
+    let body = c .before .before .before .before .survey-body .ensures in
+    record { says = rw (head-told (c .before .before .before .before .before .before .before .before)) (body .says); inside = body .inside }
 
 pub survey-spec : {M : Type 1} → statement M
 survey-spec =
@@ -42,4 +53,6 @@ survey-spec =
     (λ c. search needs)
     survey-body-requires
     returns
+    (λ c. search needs)
+    (λ c. search needs)
     returns-2)
