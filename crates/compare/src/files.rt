@@ -101,7 +101,7 @@ fn reading(sum: u64, file: &[u8]) -> u64 {
                 mixed(mixed(s, content.degree as u64), content.f as u64),
                 content.g as u64,
             );
-            mixed(mixed(s, content.name as u64), content.size as u64)
+            mixed(mixed(s, content.name_at as u64), content.size as u64)
         }
         trial::ReadTrial::Refused(refusal) => mixed(s, refusal.number() as u64),
     }

@@ -187,7 +187,7 @@ pub extern "C" fn dw_read(
             *degree = content.degree;
             *f = content.f;
             *g = content.g;
-            *name = content.name;
+            *name = content.name_at;
             *size = content.size;
             0
         }

@@ -165,7 +165,7 @@ fn read(file: &[u8]) {
             number(content.degree as u64);
             number(content.f as u64);
             number(content.g as u64);
-            number(content.name as u64);
+            number(content.name_at as u64);
             number(content.size as u64);
         }
         ReadTrial::Refused(refusal) => refused(refusal),

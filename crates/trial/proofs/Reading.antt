@@ -47,14 +47,14 @@ module _ {file powers forces : List ℕ} where
         degree = layout .head .degree;
         f = layout .head .f;
         g = layout .head .g;
-        name = layout .name;
+        «name_at» = layout .«name_at»;
         size = layout .size;
       }))
       powers′ forces′
   accepted-done layout powersRead forcesRead e inside p q =
-      let enough : layout .size ≤ length (drop (layout .name) file) = rw length-drop (omega (arith, inside .1)) in
-      let size = length-take-le (layout .size) (drop (layout .name) file) enough in
-      let start : length file - layout .size ≡ layout .name = omega (arith, inside .1) in
+      let enough : layout .size ≤ length (drop (layout .«name_at») file) = rw length-drop (omega (arith, inside .1)) in
+      let size = length-take-le (layout .size) (drop (layout .«name_at») file) enough in
+      let start : length file - layout .size ≡ layout .«name_at» = omega (arith, inside .1) in
       record { reply = rw (e, size, start); name = rw e; powersAfter = rw (e, p); forcesAfter = rw (e, q) }
 
 -- A list of levels has room where 64 have.

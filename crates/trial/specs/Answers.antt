@@ -16,12 +16,12 @@ use Rattle.trial.specs.Replies.{read, readReply, nameRead, levelsAfter, 
 
 -- Degree, f, g, and where in the file the name starts and how long it is; or the number of the refusal.
 abbrev pub readTrialReply : ReadTrial → Reply
-readTrialReply (Content c) = served (c .degree ∷ c .f ∷ c .g ∷ c .name ∷ c .size ∷ [])
+readTrialReply (Content c) = served (c .degree ∷ c .f ∷ c .g ∷ c .«name_at» ∷ c .size ∷ [])
 readTrialReply (Unreadable why) = refused (numberOf why)
 
 -- The part of a file that holds the name, by the reader's answer; empty where the file is refused.
 abbrev pub namePart : List ℕ → ReadTrial → List ℕ
-namePart file (Content c) = take (c .size) (drop (c .name) file)
+namePart file (Content c) = take (c .size) (drop (c .«name_at») file)
 namePart file (Unreadable why) = []
 
 -- `read`: its reply; that the part of the file that the reply points at is the name; and each slice afterwards.

@@ -94,7 +94,7 @@ contentOf file powers forces layout =
       head = headOf (layout .head);
       powers = take (2 ^ layout .head .degree) powers;
       forces = take (2 ^ layout .head .degree) forces;
-      name = take (layout .size) (drop (layout .name) file);
+      name = take (layout .size) (drop (layout .«name_at») file);
     }
 
 abbrev pub trialParsed : List ℕ → List ℕ → List ℕ → Verdict → Parsed Trial
@@ -103,7 +103,7 @@ trialParsed file powers forces (Unaccepted why) = failed (numberOf why)
 
 -- The degree is a sheet's, and the name reaches to the end of the file.
 abbrev pub TrialInside : List ℕ → Verdict → Type 0
-TrialInside file (Accepted layout) = (layout .head .degree ≤ 6) × (layout .name + layout .size ≡ length file)
+TrialInside file (Accepted layout) = (layout .head .degree ≤ 6) × (layout .«name_at» + layout .size ≡ length file)
 TrialInside file (Unaccepted why) = Unit
 
 -- The answer, with both slices afterwards, is what the parser of a content gives at the position.

@@ -27,7 +27,7 @@ pub(crate) fn order(degree: u32) -> usize
 // An accepted file but for its levels: its head, and where its name is.
 struct Layout {
     pub head: Head,
-    pub name: usize,
+    pub name_at: usize,
     pub size: usize,
 }
 
@@ -68,7 +68,7 @@ fn survey_body(
                 ReadName::Refused(why) => Verdict::Refused(why),
                 ReadName::Found { start, size } => Verdict::Accepted(Layout {
                     head,
-                    name: start,
+                    name_at: start,
                     size,
                 }),
             },
@@ -81,7 +81,7 @@ pub struct Content {
     pub degree: u32,
     pub f: u32,
     pub g: u32,
-    pub name: usize,
+    pub name_at: usize,
     pub size: usize,
 }
 
@@ -116,7 +116,7 @@ pub fn read(file: &[u8], powers: &mut [u16], forces: &mut [u16]) -> ReadTrial
                 degree,
                 f: head.f,
                 g: head.g,
-                name: layout.name,
+                name_at: layout.name_at,
                 size: layout.size,
             })
         }
@@ -130,7 +130,7 @@ pub fn name_part<'a>(file: &'a [u8], answer: ReadTrial) -> &'a [u8]
     match answer {
         ReadTrial::Refused(_) => return &file[..0],
         ReadTrial::Content(content) => {
-            let start = content.name;
+            let start = content.name_at;
             let size = content.size;
             if file.len() < start {
                 return &file[..0];

@@ -10,19 +10,19 @@ returns-2 : tie.Need-returns-2
 returns-2 c =
     let file = c .before .before .before .before .before .args .file .now in
     let found = c .before .before .before .answer .given in
-    part-past file (found .0 .0 .name) (found .0 .0 .size) (c .before .if1 .taken) ∙ sym (ap (namePart file) (found .1))
+    part-past file (found .0 .0 .«name_at») (found .0 .0 .size) (c .before .if1 .taken) ∙ sym (ap (namePart file) (found .1))
 
 returns-3 : tie.Need-returns-3
 returns-3 c =
     let file = c .before .before .before .before .before .before .args .file .now in
     let found = c .before .before .before .before .answer .given in
-    part-long file (found .0 .0 .name) (found .0 .0 .size) (c .before .if2 .taken) ∙ sym (ap (namePart file) (found .1))
+    part-long file (found .0 .0 .«name_at») (found .0 .0 .size) (c .before .if2 .taken) ∙ sym (ap (namePart file) (found .1))
 
 returns-4 : tie.Need-returns-4
 returns-4 c =
     let file = c .before .before .before .before .before .before .args .file .now in
     let found = c .before .before .before .before .answer .given in
-    part-within file (found .0 .0 .name) (found .0 .0 .size) ∙ sym (ap (namePart file) (found .1))
+    part-within file (found .0 .0 .«name_at») (found .0 .0 .size) ∙ sym (ap (namePart file) (found .1))
 
 pub name-part-spec : {M : Type 1} → statement M
 name-part-spec =
