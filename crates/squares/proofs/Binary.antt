@@ -3,7 +3,7 @@
 use mathlib.Core.Path.{_≡_, refl, sym, ap, ap₂, _∙_}
 use Prim.Native.Nat.{ℕ, zero, suc, _+_, _-_, _*_, _/_, _%_, _^_, _<_, min}
 use native.Mathlib.Nat
-use native.Mathlib.Nat.{le-refl, mod-lt}
+use native.Mathlib.Nat.{le-refl, mod-lt, div-add-mod'}
 use native.Mathlib.Omega.{arith}
 use lib.Arith.{digits-div, digits-mod}
 use lib.Bits.{bitAnd, bitXor, and-step}
@@ -13,10 +13,11 @@ use lib.Pow.{pow-pos}
 use Rattle.poly.proofs.Ring
 use Rattle.poly.proofs.Blocks
 use Rattle.poly.proofs.Binary.{add-xor}
-use Rattle.poly.specs.Code.{digit, add}
+use Rattle.poly.specs.Code.{digit, add, mul}
 use Rattle.squares.specs.Symbols.{number, sum, line, outputCell, symbol}
 use Rattle.squares.proofs.Codes
 use Rattle.squares.proofs.Middle
+use Rattle.squares.proofs.Middle.{middle}
 use Rattle.squares.proofs.Linear
 
 -- the code with its n + 1 bits in reverse: the constant term is the highest
@@ -81,6 +82,14 @@ site-add n {f} a b f-lt =
     rw (Codes.add-div 2 (le-refl 2) n a b, Codes.add-mod 2 (le-refl 2) n a b)
     (Linear.symbol-add 2 (le-refl 2) n f-lt (a / 2 ^ n) (b / 2 ^ n) (mod-lt a (pow-pos n)) (mod-lt b (pow-pos n))
     ∙ add-xor (atSite n f a) (atSite n f b))
+
+-- At a power of two, it is the middle of the code shifted.
+pub unit-middle : (n m : ℕ) {f : ℕ} → f < 2 ^ suc n → atSite n f (2 ^ m) ≡ middle 2 n (f * 2 ^ m)
+unit-middle n m {f} f-lt =
+    let shift : mul 2 f (2 ^ m) ≡ f * 2 ^ m =
+    rw (Nat.one-mul (2 ^ m), Ring.mul-comm 2 (le-refl 2) f 1, Ring.one-mul 2 (le-refl 2) f) at
+    (Codes.mul-shift-right 2 (le-refl 2) m f 1) in
+    rw (div-add-mod' (2 ^ m) (2 ^ n), shift) at (Middle.symbol-middle 2 (le-refl 2) n (2 ^ m / 2 ^ n) f-lt (mod-lt (2 ^ m) (pow-pos n)))
 
 pub symbol-parts : (n : ℕ) {f col : ℕ} (row : ℕ) → f < 2 ^ suc n → col < 2 ^ n
     → symbol 2 n f row col ≡ bitXor (symbol 2 n f row 0) (symbol 2 n f 0 col)

@@ -106,11 +106,19 @@ fn parts(n: u32, code: u32, shift: u32) -> [u8; 64]
     let mut table = [0u8; 64];
     let mut j: u32 = 0;
     while j < n {
-        let part = symbol_at(n, code, 1u64 << (shift + j)) as u8;
+        let part = unit_symbol(n, code, shift + j);
         double(&mut table, 1 << j, part);
         j += 1;
     }
     table
+}
+
+// The symbol at the site 2^m, whose line has a single one: n bits of the code times x^m, from that of x^n on.
+fn unit_symbol(n: u32, code: u32, m: u32) -> u8
+    requires { ⌜ (n < 7) × (code < 2 ^ suc n) × (m < 12) ⌝ }
+    ensures { λ r. ⌜ r ≡ symbol 2 n code (2 ^ m / 2 ^ n) (2 ^ m % 2 ^ n) ⌝ }
+{
+    ((((code as u64) << m) >> n) % (1u64 << n)) as u8
 }
 
 // Behind the first `count` entries, the same exclusive or a part.

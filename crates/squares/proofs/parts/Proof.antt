@@ -1,23 +1,21 @@
 -- `parts` meets its contract. The invariant: the first 2^j entries are made. One more power of two doubles them, by linearity.
 use mathlib.Core.Path.{_≡_, refl, sym, ap, _∙_}
 use mathlib.Core.List.{List}
-use Prim.Native.Nat.{ℕ, suc, _+_, _-_, _*_, _/_, _%_, _^_, _≤_, _<_}
-use native.Mathlib.Nat.{le-refl, mod-lt, lt-of-lt-of-le, pow-suc, one-mul, zero-mul, mul-comm}
+use Prim.Native.Nat.{ℕ, suc, _+_, _-_, _*_, _^_, _≤_, _<_}
+use native.Mathlib.Nat.{le-refl, pow-suc, one-mul, zero-mul, mul-comm}
 use native.Mathlib.Decide.{decLt}
 use native.Mathlib.Numerals.{add-one}
 use native.Mathlib.Omega.{arith}
 use borrow.Author.Needs.{needs}
 use lib.Bits.{xor-self}
 use lib.ListN.{length, getD}
-use lib.Pow.{pow-pos, pow-mono, pow-add}
+use lib.Pow.{pow-mono, pow-add}
 use Rattle.poly.specs.Code.{add}
 use Rattle.poly.proofs.Ring
 use Rattle.poly.proofs.Blocks
 use Rattle.poly.proofs.Shifts.{one-shl}
 use Rattle.squares.specs.Parts.{Parts, Doubled}
-use Rattle.squares.proofs.Linear.{symbol-lt}
 use Rattle.squares.proofs.Binary.{atSite, site-add}
-use Rattle.squares.proofs.Orders.{order-le}
 use Rattle.squares.proofs.parts.Statement.{statement}
 use Rattle.squares.proofs.parts.Tie as tie
 
@@ -56,9 +54,6 @@ none {n} {code} shift {table} small e = record { at = λ i l. go i (omega arith)
     go : (i : ℕ) → i ≡ 0 → getD table i 0 ≡ atSite n code (i * 2 ^ shift)
     go i z = rw (z, zero-mul (2 ^ shift)) (e ∙ sym (site-add n 0 0 small ∙ xor-self (atSite n code 0)))
 
-site-lt : {n code : ℕ} (site : ℕ) → n < 7 → code < 2 ^ suc n → atSite n code site < 64
-site-lt {n} site h small = lt-of-lt-of-le (symbol-lt 2 (le-refl 2) n small (site / 2 ^ n) (mod-lt site (pow-pos n))) (order-le n h)
-
 abbrev Inv-loop : tie.InvT-loop
 Inv-loop n code shift table₀ j₀ table j = (j ≤ n) × (length table ≡ 64) × Parts n code shift j table
 
@@ -68,23 +63,11 @@ abbrev μ-loop : tie.MeasureT-loop
 loop-holds : tie.Need-loop-holds Inv-loop μ-loop
 loop-holds c = (omega arith, refl, none (c .args .shift) (c .pre .1) refl)
 
-add-symbol-at : tie.Need-add-symbol-at Inv-loop μ-loop
-add-symbol-at c = record { fits = omega arith }
+add-unit-symbol : tie.Need-add-unit-symbol Inv-loop μ-loop
+add-unit-symbol c = record { fits = omega arith }
 
-cast-symbol-at : tie.Need-cast-symbol-at Inv-loop μ-loop
-cast-symbol-at c = search needs
-
-shl-symbol-at : tie.Need-shl-symbol-at Inv-loop μ-loop
-shl-symbol-at c = omega arith
-
-symbol-at-requires : tie.Need-symbol-at-requires Inv-loop μ-loop
-symbol-at-requires c κs = omega arith
-
-cast-part : tie.Need-cast-part Inv-loop μ-loop
-cast-part c =
-    let start = c .before .before .before in
-    let l = site-lt (1 * 2 ^ (start .args .shift + c .before .before .loop .j) % 2 ^ 64) (start .pre .0) (start .pre .1) in
-    record { fits = rw (c .symbol-at .ensures) (omega arith) }
+unit-symbol-requires : tie.Need-unit-symbol-requires Inv-loop μ-loop
+unit-symbol-requires c κs = (omega arith, c .before .before .pre .1, omega arith)
 
 slice-aggregate-double : tie.Need-slice-aggregate-double Inv-loop μ-loop
 slice-aggregate-double c = sym (c .before .before .before .loop .inv .1)
@@ -111,8 +94,8 @@ loop-again : tie.Need-loop-again Inv-loop μ-loop
 loop-again c =
     let start = c .before .before .before .before .before .before in
     let loop = c .before .before .before .before .before .loop in
-    let part = rw (one-shl 64 (start .args .shift + loop .j) (omega arith)) at (c .before .before .before .symbol-at .ensures) in
     let doubled = rw (one-shl 64 (loop .j) (omega arith)) at (c .before .double .ensures) in
+    let part = c .before .before .before .unit-symbol .ensures in
     (omega arith, doubled .long ∙ loop .inv .1, rw add-one (turn (start .pre .1) part (loop .inv .2) doubled))
 
 returns : tie.Need-returns Inv-loop μ-loop
@@ -127,11 +110,8 @@ parts-spec =
     Inv-loop
     μ-loop
     loop-holds
-    add-symbol-at
-    cast-symbol-at
-    shl-symbol-at
-    symbol-at-requires
-    cast-part
+    add-unit-symbol
+    unit-symbol-requires
     slice-aggregate-double
     cast-double
     shl-double
