@@ -1,5 +1,5 @@
--- The field of two elements, as machine words do it: an output cell is the parity of the ones in the reversed code and the shifted site,
--- and a symbol is its row's part exclusive or its column's.
+-- The field of two elements, as machine words do it: an output cell is the parity of the ones in the code and the shifted line, and a
+-- symbol is its row's part exclusive or its column's.
 use mathlib.Core.Path.{_≡_, refl, sym, ap, ap₂, _∙_}
 use Prim.Native.Nat.{ℕ, zero, suc, _+_, _-_, _*_, _/_, _%_, _^_, _<_, min}
 use native.Mathlib.Nat
@@ -15,62 +15,67 @@ use Rattle.poly.proofs.Blocks
 use Rattle.poly.proofs.Binary.{add-xor}
 use Rattle.poly.specs.Code.{digit, add, mul}
 use Rattle.squares.specs.Symbols.{number, sum, line, outputCell, symbol}
+use Rattle.squares.specs.Lines.{parity}
 use Rattle.squares.proofs.Codes
+use Rattle.squares.proofs.Places
 use Rattle.squares.proofs.Middle
 use Rattle.squares.proofs.Middle.{middle}
 use Rattle.squares.proofs.Linear
-
--- the code with its n + 1 bits in reverse: the constant term is the highest
-abbrev pub reversed : ℕ → ℕ → ℕ
-reversed n f = number 2 (suc n) (digit 2 f)
-
-sum-last : (k : ℕ) (h : ℕ → ℕ) → sum (suc k) h ≡ sum k h + h k
-sum-last zero h = Nat.add-comm (h 0) 0
-sum-last (suc k) h =
-    ap (λ (v : ℕ). h 0 + v) (sum-last k (λ j. h (suc j))) ∙ sym (Nat.add-assoc (h 0) (sum k (λ j. h (suc j))) (h (suc k)))
 
 bit-min : (d e : ℕ) → d < 2 → e < 2 → min d e ≡ d * e
 bit-min zero e hd he = omega arith
 bit-min (suc zero) e hd he = omega arith
 bit-min (suc (suc d)) e hd he = absurd (omega arith)
 
-ones-and-cons : (x a : ℕ) {d : ℕ} → d < 2 → ones (bitAnd (x * 2 + d) a) ≡ ones (bitAnd x (a / 2)) + d * (a % 2)
-ones-and-cons x a {d} h =
-    let high : ℕ = bitAnd x (a / 2) in
-    let low : ℕ = min d (a % 2) in
+ones-and-step : (a b : ℕ) → ones (bitAnd a b) ≡ a % 2 * (b % 2) + ones (bitAnd (a / 2) (b / 2))
+ones-and-step a b =
+    let high : ℕ = bitAnd (a / 2) (b / 2) in
+    let low : ℕ = min (a % 2) (b % 2) in
     let low-lt : low < 2 = omega arith in
-    ap ones
-    (and-step (x * 2 + d) a ∙ ap₂ (λ (u v : ℕ). bitAnd u (a / 2) * 2 + min v (a % 2)) (digits-div x h) (digits-mod x h))
-    ∙ ones-step (high * 2 + low) ∙ ap₂ (λ (u v : ℕ). u + ones v) (digits-mod high low-lt) (digits-div high low-lt)
-    ∙ Nat.add-comm low (ones high) ∙ ap (λ (v : ℕ). ones high + v) (bit-min d (a % 2) h (mod-lt a (omega arith)))
+    ap ones (and-step a b) ∙ ones-step (high * 2 + low)
+    ∙ ap₂ (λ (u v : ℕ). u + ones v)
+    (digits-mod high low-lt ∙ bit-min (a % 2) (b % 2) (mod-lt a (omega arith)) (mod-lt b (omega arith))) (digits-div high low-lt)
 
--- the ones of h 0 .. h (k - 1) that meet ones among the k low bits c 0 .. c (k - 1) of a, both highest first
-ones-and : (k a : ℕ) (h c : ℕ → ℕ) → ((i : ℕ) → i < k → h i < 2) → ((i : ℕ) → i < k → c i ≡ digit 2 a (k - suc i))
-    → ones (bitAnd (number 2 k h) a) ≡ sum k (λ i. h i * c i)
+-- the ones that two numbers share, from their k low bits h and c, where the first has no others
+ones-and : (k : ℕ) {a : ℕ} (b : ℕ) (h c : ℕ → ℕ) → a < 2 ^ k → ((j : ℕ) → j < k → h j ≡ digit 2 a j)
+    → ((j : ℕ) → j < k → c j ≡ digit 2 b j) → ones (bitAnd a b) ≡ sum k (λ j. h j * c j)
 unfolding ones
-ones-and zero a h c bits e = refl
-ones-and (suc k) a h c bits e =
-    ones-and-cons (number 2 k h) a (bits k (omega arith))
+ones-and zero {a} b h c lt e e′ = let none : a ≡ 0 = omega arith in rw none
+ones-and (suc k) {a} b h c lt e e′ =
+    ones-and-step a b
     ∙ ap₂ _+_
-    (ones-and k (a / 2) h c (λ i l. bits i (omega arith)) (λ i l. e i (omega arith) ∙ Middle.digit-before 2 (le-refl 2) k a i l))
-    (ap (λ (v : ℕ). h k * v) (sym (e k (omega arith) ∙ Middle.digit-last 2 (le-refl 2) k a)))
-    ∙ sym (sum-last k (λ i. h i * c i))
+    (sym (ap₂ _*_ (e 0 (omega arith) ∙ Middle.digit-lowest 2 (le-refl 2) a) (e′ 0 (omega arith) ∙ Middle.digit-lowest 2 (le-refl 2) b)))
+    (ones-and k (b / 2) (λ j. h (suc j)) (λ j. c (suc j)) (omega (arith, Nat.pow-suc 2 k))
+    (λ j l. e (suc j) (omega arith) ∙ Middle.digit-rest 2 (le-refl 2) a j)
+    (λ j l. e′ (suc j) (omega arith) ∙ Middle.digit-rest 2 (le-refl 2) b j))
 
-pub output-ones : (n f row : ℕ) {col : ℕ} (i : ℕ) → col < 2 ^ n → i < n
-    → outputCell 2 n f (line 2 n row col) i ≡ ones (bitAnd (reversed n f) ((row * 2 ^ n + col) / 2 ^ (n - suc i))) % 2
-unfolding outputCell
-output-ones n f row {col} i lt l =
-    ap (λ (v : ℕ). v % 2)
-    (sym (ones-and (suc n) (X / 2 ^ (n - suc i)) (digit 2 f) (λ j. getD (line 2 n row col) (i + j) 0)
-    (λ j _. mod-lt (f / 2 ^ j) (omega arith)) cell))
-  where
-    X : ℕ
-    X = row * 2 ^ n + col
+number-equal : (k : ℕ) (h h′ : ℕ → ℕ) → ((i : ℕ) → i < k → h i ≡ h′ i) → number 2 k h ≡ number 2 k h′
+number-equal zero h h′ e = refl
+number-equal (suc k) h h′ e = ap₂ (λ (u v : ℕ). u * 2 + v) (number-equal k h h′ (λ i l. e i (omega arith))) (e k (omega arith))
 
-    cell : (j : ℕ) → j < suc n → getD (line 2 n row col) (i + j) 0 ≡ digit 2 (X / 2 ^ (n - suc i)) (suc n - suc j)
-    cell j h =
-        rw (Middle.digits-append 2 (le-refl 2) n row lt n, Middle.div-pow 2 X (n - suc i) (suc n - suc j))
-        (Middle.cell-at 2 (le-refl 2) (n + n) (i + j) ((n - suc i) + (suc n - suc j)) X (omega arith))
+-- The site's symbol, from a word whose bit i is cell i.
+module _ (n row : ℕ) {f col : ℕ} (word : ℕ) (n-lt : n < 32) (f-lt : f < 2 ^ suc n) (col-lt : col < 2 ^ n)
+    (cells : (i : ℕ) → i < n + n → digit 2 word i ≡ digit 2 (row * 2 ^ n + col) (n + n - suc i)) where
+  cell : (i j : ℕ) → i < n → j < suc n → getD (line 2 n row col) (i + j) 0 ≡ digit 2 (word / 2 ^ i % 2 ^ 32) j
+  cell i j l h =
+      rw (
+        Middle.digits-append 2 (le-refl 2) n row col-lt n,
+        Places.digit-mod (word / 2 ^ i) {w = 32} j (omega arith),
+        Middle.div-pow 2 word i j,
+        cells (i + j) (omega arith),
+      )
+      (Middle.cell-at 2 (le-refl 2) (n + n) (i + j) (n + n - suc (i + j)) (row * 2 ^ n + col) (omega arith))
+
+  output-ones : (i : ℕ) → i < n → outputCell 2 n f (line 2 n row col) i ≡ parity f word i
+  unfolding outputCell
+  output-ones i l =
+      ap (λ (v : ℕ). v % 2)
+      (sym (ones-and (suc n) (word / 2 ^ i % 2 ^ 32) (digit 2 f) (λ j. getD (line 2 n row col) (i + j) 0) f-lt (λ j _. refl)
+      (λ j h. cell i j l h)))
+
+  pub symbol-parities : symbol 2 n f row col ≡ number 2 n (parity f word)
+  unfolding symbol
+  symbol-parities = number-equal n (outputCell 2 n f (line 2 n row col)) (parity f word) output-ones
 
 -- The symbol at a site given as one number.
 abbrev pub atSite : ℕ → ℕ → ℕ → ℕ

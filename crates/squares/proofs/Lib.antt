@@ -4,7 +4,9 @@ pub mod Middle
 pub mod Linear
 pub mod Latin
 pub mod Orthogonal
+pub mod Places
 pub mod Binary
+pub mod Exchanges
 pub mod Sheets
 pub mod Served
 pub mod Orders

@@ -39,25 +39,25 @@ module _ (p : ℕ) (p2 : 2 ≤ p) where
   digit-shift : (a j : ℕ) → digit p (a * p) (suc j) ≡ digit p a j
   digit-shift a j = rw (pow-suc p j, Nat.mul-div-mul-right a (p ^ j) (p-pos p p2))
 
-  digit-rest : (a j : ℕ) → digit p a (suc j) ≡ digit p (a / p) j
+  pub digit-rest : (a j : ℕ) → digit p a (suc j) ≡ digit p (a / p) j
   digit-rest a j = rw (pow-succ' p j, ← div-div-eq-div-mul a p (p ^ j))
 
-  digit-lowest : (a : ℕ) → digit p a 0 ≡ a % p
+  pub digit-lowest : (a : ℕ) → digit p a 0 ≡ a % p
   digit-lowest a = rw (pow-zero p, Nat.div-one a)
 
   -- the last of k + 1 digits, counted from the top, and those before it
-  pub digit-last : (k a : ℕ) → digit p a (suc k - suc k) ≡ a % p
+  digit-last : (k a : ℕ) → digit p a (suc k - suc k) ≡ a % p
   digit-last k a = let e : suc k - suc k ≡ 0 = omega arith in rw e (digit-lowest a)
 
-  pub digit-before : (k a i : ℕ) → i < k → digit p a (suc k - suc i) ≡ digit p (a / p) (k - suc i)
+  digit-before : (k a i : ℕ) → i < k → digit p a (suc k - suc i) ≡ digit p (a / p) (k - suc i)
   digit-before k a i l = let e : suc k - suc i ≡ suc (k - suc i) = omega arith in rw e (digit-rest a (k - suc i))
 
   -- ---- the line: the digits of X
   module _ (n row : ℕ) {col : ℕ} (lt : col < p ^ n) where
-    digit-high : (k : ℕ) → digit p (row * p ^ n + col) (k + n) ≡ digit p row k
+    pub digit-high : (k : ℕ) → digit p (row * p ^ n + col) (k + n) ≡ digit p row k
     digit-high k = rw (Nat.add-comm k n, ← div-pow p (row * p ^ n + col) n k, digits-div row lt)
 
-    digit-low : (k : ℕ) → k < n → digit p (row * p ^ n + col) k ≡ digit p col k
+    pub digit-low : (k : ℕ) → k < n → digit p (row * p ^ n + col) k ≡ digit p col k
     digit-low k l =
         let parts : n ≡ (n - suc k) + suc k = omega arith in
         let e : row * p ^ n ≡ row * p ^ (n - suc k) * p * p ^ k =
@@ -121,8 +121,9 @@ module _ (p : ℕ) (p2 : 2 ≤ p) where
   number-is : (k a : ℕ) (h : ℕ → ℕ) → ((i : ℕ) → i < k → h i ≡ digit p a (k - suc i)) → number p k h ≡ a % p ^ k
   number-is zero a h e = rw (pow-zero p) (sym (Nat.mod-one a))
   number-is (suc k) a h e =
-      rw (number-is k (a / p) h (λ i l. e i (omega arith) ∙ digit-before k a i l), e k (omega arith), digit-last k a, pow-suc p k)
-      (sym (mod-mul a (Blocks.pow-pos p p2 k) (p-pos p p2)))
+      ap₂ (λ (u v : ℕ). u * p + v) (number-is k (a / p) h (λ i l. e i (omega arith) ∙ digit-before k a i l))
+      (e k (omega arith) ∙ digit-last k a)
+      ∙ rw (pow-suc p k) (sym (mod-mul a (Blocks.pow-pos p p2 k) (p-pos p p2)))
 
   pub number-lt : (k : ℕ) (h : ℕ → ℕ) → ((i : ℕ) → h i < p) → number p k h < p ^ k
   number-lt zero h small = Blocks.pow-pos p p2 0

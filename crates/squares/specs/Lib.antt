@@ -4,3 +4,4 @@ pub mod Sheets
 pub mod Replies
 pub mod Claims
 pub mod Parts
+pub mod Lines

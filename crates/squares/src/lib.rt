@@ -3,14 +3,15 @@ use poly::Checked;
 use poly::Degree;
 use reply::Refusal;
 ghost use mathlib.Core.Path.{_≡_};
-ghost use Prim.Native.Nat.{suc, _*_, _/_, _%_, _^_, _≤_, _<_};
-ghost use mathlib.Core.List.{_++_};
+ghost use Prim.Native.Nat.{suc, _-_, _*_, _/_, _%_, _^_, _≤_, _<_};
+ghost use mathlib.Core.List.{[], _∷_, _++_};
 ghost use lib.ListN.{length, drop};
 ghost use lib.Seq.{sets};
-ghost use Rattle.poly.specs.Code.{digit};
+ghost use Rattle.reply.specs.Reply.{served};
 ghost use Rattle.squares.specs.Symbols.{number, symbol};
 ghost use Rattle.squares.specs.Replies.{symbolsReply, siteReply, laidReply, sheetReply, sheetOf, sheetBytes};
 ghost use Rattle.squares.specs.Parts.{Parts, Doubled, rowFrom};
+ghost use Rattle.squares.specs.Lines.{parity, Moved, exchanged, Lower};
 
 // The symbols of f and of g at a site, or why there are none.
 pub enum Symbols {
@@ -37,9 +38,48 @@ pub fn site(n: u32, f: u32, g: u32, row: u32, col: u32) -> Symbols
         return Symbols::Refused(Refusal::SiteRange);
     }
     let place = row as u64 * order + col as u64;
-    let first = symbol_at(n, f, place);
-    let second = symbol_at(n, g, place);
+    let line = reversed(place) >> (64 - 2 * n);
+    both(n, f, g, line)
+}
+
+// Both symbols from a line with cell i as bit i: each output cell is a count of ones modulo 2. The window has cells i to i + 31; a code of
+// degree n keeps those up to cell i + n.
+fn both(n: u32, f: u32, g: u32, line: u64) -> Symbols
+    requires { ⌜ n < 32 ⌝ }
+    ensures { λ r. ⌜ symbolsReply r ≡ served (number 2 n (parity f line) ∷ number 2 n (parity g line) ∷ []) ⌝ }
+{
+    let mut first: u32 = 0;
+    let mut second: u32 = 0;
+    let mut rest = line;
+    let mut i: u32 = 0;
+    while i < n {
+        let window = (rest % 4294967296) as u32;
+        first = first * 2 + u32::count_ones(f & window) % 2;
+        second = second * 2 + u32::count_ones(g & window) % 2;
+        rest = rest / 2;
+        i += 1;
+    }
     Symbols::Both(first, second)
+}
+
+// The 64 bits in reverse, by exchanges of ever wider groups, which the compiler knows as a bit reversal.
+fn reversed(bits: u64) -> u64
+    ensures { λ r. ⌜ Moved (λ i. 63 - i) bits r ⌝ }
+{
+    let x = swapped(bits, 1, 0x5555555555555555);
+    let x = swapped(x, 2, 0x3333333333333333);
+    let x = swapped(x, 4, 0x0f0f0f0f0f0f0f0f);
+    let x = swapped(x, 8, 0x00ff00ff00ff00ff);
+    let x = swapped(x, 16, 0x0000ffff0000ffff);
+    swapped(x, 32, 0x00000000ffffffff)
+}
+
+// The groups of `width` bits exchanged two by two; low has ones in the lower group of each two.
+fn swapped(x: u64, width: u32, low: u64) -> u64
+    requires { ⌜ Lower width low ⌝ }
+    ensures { λ r. ⌜ Moved (exchanged width) x r ⌝ }
+{
+    ((x >> width) & low) | ((x & low) << width)
 }
 
 // Whether a sheet was laid.
@@ -66,35 +106,6 @@ pub fn sheet(n: u32, f: u32, g: u32, out: &mut [u8]) -> Laid
     }
     fill(n, f, g, out);
     Laid::Done
-}
-
-// The n + 1 bits of a code in reverse: the constant term is the highest.
-fn reverse(n: u32, f: u32) -> u32
-    requires { ⌜ n < 32 ⌝ }
-    ensures { λ r. ⌜ r ≡ number 2 (suc n) (digit 2 f) ⌝ }
-{
-    let mut bits: u32 = 0;
-    let mut i: u32 = 0;
-    while i <= n {
-        bits = bits * 2 + (f >> i) % 2;
-        i += 1;
-    }
-    bits
-}
-
-// The symbol at a site, as the number row * 2^n + col: each output cell is a count of ones modulo 2.
-fn symbol_at(n: u32, code: u32, site: u64) -> u32
-    requires { ⌜ n < 32 ⌝ }
-    ensures { λ r. ⌜ r ≡ symbol 2 n code (site / 2 ^ n) (site % 2 ^ n) ⌝ }
-{
-    let bits = reverse(n, code) as u64;
-    let mut cells: u32 = 0;
-    let mut left = n;
-    while 0 < left {
-        left -= 1;
-        cells = cells * 2 + u64::count_ones(bits & (site >> left)) % 2;
-    }
-    cells
 }
 
 // The symbols at the multiples of 2^shift: with shift n those of column 0, with shift 0 those of row 0. A symbol is linear in the site, so

@@ -3,6 +3,7 @@ use mathlib.Core.Bool.{false}
 use mathlib.Core.List.{List, [], _∷_, _++_}
 use mathlib.Core.Path.{_≡_, sym, ap, _∙_}
 use Prim.Native.Nat.{ℕ, _*_, _%_, _^_, _≤_, _<_}
+use native.Mathlib.Nat.{lt-of-lt-of-le, le-of-eq}
 use native.Mathlib.Omega.{arith}
 use borrow.Author.Needs.{needs}
 use borrow.Author.Tests.{lt-ltb, le-ltb}
@@ -109,7 +110,7 @@ returns-3 : tie.Need-returns-3
 returns-3 c =
     let a = c .before .before .before .before .before .before .before .args in
     short (a .n) (a .f) (a .g) (a .out .now) (inside (c .before)) (codes-passed (c .before))
-    (rw (room-is (a .n) (below (c .before))) at (c .if2 .taken))
+    (lt-of-lt-of-le (c .if2 .taken) (le-of-eq (room-is (a .n) (below (c .before)))))
 
 room : (c : tie.Else2)
     → let a = c .before .before .before .before .before .before .before .args in 2 * 4 ^ a .n ≤ length (a .out .now)

@@ -1,24 +1,27 @@
 -- `site` meets its contract.
-use mathlib.Core.Path.{_≡_, sym, ap, ap₂, _∙_}
+use mathlib.Core.Path.{_≡_, sym, ap, _∙_}
 use mathlib.Core.Bool.{false, or-true}
 use mathlib.Core.List.{[], _∷_, _++_}
-use Prim.Native.Nat.{ℕ, _+_, _*_, _/_, _%_, _^_, _≤_, _<_}
+use Prim.Native.Nat.{ℕ, suc, _+_, _-_, _*_, _/_, _%_, _^_, _≤_, _<_}
 use native.Mathlib.Nat
 use native.Mathlib.Omega.{arith}
 use borrow.Author.Needs.{needs}
 use borrow.Author.Tests.{le-leb, lt-leb}
-use lib.Arith.{digits-lt, digits-div, digits-mod}
+use lib.Arith.{digits-lt}
 use lib.Dec.{leb}
 use lib.Pow.{pow-add, pow-mono}
-use Rattle.reply.specs.Reply.{served, _gives_, unless}
-use Rattle.reply.proofs.Order.{passed, failed}
+use Rattle.reply.specs.Reply.{Reply, served, _gives_, unless}
+use Rattle.reply.proofs.Order.{passed, failed, none-applies}
 use Rattle.poly.specs.Limits.{outside}
 use Rattle.poly.specs.Causes.{codeCauses}
 use Rattle.poly.specs.Replies.{checkedReply}
-use Rattle.poly.proofs.Ranges.{within}
+use Rattle.poly.proofs.Ranges.{within, Passed, passed-codes}
 use Rattle.poly.proofs.Shifts.{one-shl}
-use Rattle.squares.specs.Symbols.{symbol}
+use Rattle.squares.specs.Symbols.{number, symbol}
+use Rattle.squares.specs.Lines.{parity, Moved}
 use Rattle.squares.specs.Replies.{siteReply, offSite}
+use Rattle.squares.proofs.Middle.{div-pow}
+use Rattle.squares.proofs.Binary.{symbol-parities}
 use Rattle.squares.proofs.site.Statement.{statement}
 use Rattle.squares.proofs.site.Tie as tie
 
@@ -77,6 +80,16 @@ reply c =
     past (a .n) (a .f) (a .g) (a .row) (a .col) (inside c)
     (sym (ap checkedReply (c .enum-told .given .1)) ∙ c .before .before .check-pair .ensures)
 
+codes : (c : tie.After-enum-told)
+    → let a = c .before .before .before .before .before .args in
+    Passed (a .n) (a .f) (a .g)
+unfolding codeCauses
+codes c =
+    let a = c .before .before .before .before .before .args in
+    passed-codes (a .n) (a .f) (a .g) []
+    (none-applies (codeCauses (a .n) (a .f) ++ codeCauses (a .n) (a .g)) [] []
+    (sym (sym (ap checkedReply (c .enum-told .given .1)) ∙ c .before .before .check-pair .ensures)))
+
 shl-order : tie.Need-shl-order
 shl-order c = let l = small c in omega arith
 
@@ -118,28 +131,49 @@ add-place c =
     let l = place-lt (a .n) (a .row) (a .col) (small (c .before .before)) (row-lt c) (col-lt c) in
     rw (order (c .before .before)) (record { fits = omega arith })
 
-symbol-at-requires : tie.Need-symbol-at-requires
-symbol-at-requires c κs = small (c .before .before)
+mul-line : tie.Need-mul-line
+mul-line c = let l = small (c .before .before .before) in record { fits = omega arith }
 
-symbol-at-requires-2 : tie.Need-symbol-at-requires-2
-symbol-at-requires-2 c κs = small (c .before .before .before)
+sub-line : tie.Need-sub-line
+sub-line c = let l = small (c .before .before .before) in omega arith
 
--- the site that the number stands for
-at-place : (n code row col order v : ℕ) → order ≡ 2 ^ n → col < 2 ^ n
-    → v ≡ symbol 2 n code ((row * order + col) / 2 ^ n) ((row * order + col) % 2 ^ n) → v ≡ symbol 2 n code row col
-at-place n code row col order v e h is = is ∙ rw (e, digits-div row h, digits-mod row h)
+shr-line : tie.Need-shr-line
+shr-line c = let l = within 1 31 (inside (c .before .before .before)) in omega arith
+
+both-requires : tie.Need-both-requires
+both-requires c κs = small (c .before .before .before)
+
+-- the symbol from the line, which is the site's number in reverse without the places behind its 2n bits
+from-line : (n row : ℕ) {f col order place : ℕ} → n < 32 → f < 2 ^ suc n → col < 2 ^ n → order ≡ 2 ^ n
+    → Moved (λ i. 63 - i) (row * order + col) place → symbol 2 n f row col ≡ number 2 n (parity f (place / 2 ^ (64 - 2 * n)))
+from-line n row {f} {col} {order} {place} n-lt f-lt c-lt is moved =
+    symbol-parities n row (place / 2 ^ (64 - 2 * n)) n-lt f-lt c-lt
+    (λ i l. let same : 63 - ((64 - 2 * n) + i) ≡ n + n - suc i = omega arith in
+    rw (div-pow 2 place (64 - 2 * n) i, ← is, ← same) (moved .bit ((64 - 2 * n) + i) (omega arith)))
+
+served-here : {n f g row col order place : ℕ} {answer : Reply} → n < 32 → Passed n f g → row < 2 ^ n → col < 2 ^ n → order ≡ 2 ^ n
+    → Moved (λ i. 63 - i) (row * order + col) place
+    → let line : ℕ = place / 2 ^ (64 - 2 * n) in
+    answer ≡ served (number 2 n (parity f line) ∷ number 2 n (parity g line) ∷ [])
+    → answer ≡ unless (offSite n row col gives 5 ∷ []) (served (symbol 2 n f row col ∷ symbol 2 n g row col ∷ []))
+served-here {n} {f} {g} {row} {col} small codes r-lt c-lt is moved e =
+    rw (
+      lt-leb (2 ^ n) row r-lt,
+      lt-leb (2 ^ n) col c-lt,
+      from-line n row {f = f} small (codes .degree-f .high) c-lt is moved,
+      from-line n row {f = g} small (codes .degree-g .high) c-lt is moved,
+    )
+    e
 
 returns-5 : tie.Need-returns-5
 returns-5 c =
     let past = c .before .before in
-    let a = past .before .before .before .before .before .before .before .args in
-    let first = at-place (a .n) (a .f) (a .row) (a .col) _ _ (order (past .before .before)) (col-lt past) (c .before .symbol-at .ensures) in
-    let second = at-place (a .n) (a .g) (a .row) (a .col) _ _ (order (past .before .before)) (col-lt past) (c .symbol-at2 .ensures) in
-    ap₂ (λ (u v : ℕ). served (u ∷ v ∷ [])) first second
-    ∙ sym (reply (past .before .before) ∙ rw (lt-leb (2 ^ a .n) (a .row) (row-lt past), lt-leb (2 ^ a .n) (a .col) (col-lt past)))
+    let told = past .before .before in
+    served-here (small told) (codes told) (row-lt past) (col-lt past) (order told) (c .before .reversed .ensures) (c .both .ensures)
+    ∙ sym (reply told)
 
 pub site-spec : {M : Type 1} → statement M
 site-spec =
     tie.close
     (tie.spec outside-requires returns check-pair-requires enum-known-codes returns-2 enum-told shl-order returns-3 returns-4 mul-place
-    add-place symbol-at-requires symbol-at-requires-2 returns-5)
+    add-place (λ c κs. search needs) mul-line sub-line (λ c. search needs) shr-line both-requires returns-5)

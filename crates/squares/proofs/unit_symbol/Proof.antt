@@ -1,6 +1,6 @@
 -- `unit_symbol` meets its contract: the shifts lose no bit, so that they give the middle of the code times x^m.
-use mathlib.Core.Path.{_≡_, sym}
-use Prim.Native.Nat.{ℕ, suc, _*_, _%_, _^_, _<_}
+use mathlib.Core.Path.{_≡_, sym, ap₂, _∙_}
+use Prim.Native.Nat.{ℕ, suc, _*_, _/_, _%_, _^_, _<_}
 use native.Mathlib.Nat.{mod-lt, lt-of-lt-of-le}
 use native.Mathlib.Omega.{arith}
 use borrow.Author.Needs.{needs}
@@ -25,8 +25,9 @@ code-exact n code m h small l =
 returns : tie.Need-returns
 returns c =
     let a = c .args in
-    rw (shifted (a .n) (c .pre .0), code-exact (a .n) (a .code) (a .m) (c .pre .0) (c .pre .1) (c .pre .2))
-    (sym (unit-middle (a .n) (a .m) (c .pre .1)))
+    ap₂ (λ (u v : ℕ). u / 2 ^ a .n % v) (code-exact (a .n) (a .code) (a .m) (c .pre .0) (c .pre .1) (c .pre .2))
+    (shifted (a .n) (c .pre .0))
+    ∙ sym (unit-middle (a .n) (a .m) (c .pre .1))
 
 pub unit-symbol-spec : {M : Type 1} → statement M
 unit-symbol-spec =
