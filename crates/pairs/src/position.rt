@@ -6,6 +6,7 @@ use crate::table::word_count;
 use euclid::Chained;
 use reply::Refusal;
 ghost use mathlib.Core.Path.{_≡_};
+ghost use mathlib.Core.Bool.{cond};
 ghost use mathlib.Core.List.{map};
 ghost use Prim.Native.Nat.{_-_, _≤_, _<_};
 ghost use lib.ListN.{length};
@@ -73,7 +74,8 @@ fn blocks_before(n: u32, k: usize) -> Before
 }
 
 // The index of the degrees among the compositions of n into k parts; count is their number. The walk goes over the gaps between n ones: a
-// comma ends a degree, and before each plus stand the compositions with a comma in its place.
+// comma ends a degree, and before each plus stand the compositions with a comma in its place. A turn computes what either would leave and
+// takes one of the two.
 fn composition_rank(n: u32, chain: &[u32], k: usize, count: u32) -> u32
     requires small { ⌜ n < 32 ⌝ }
     requires room { ⌜ k < length (now chain) ⌝ }
@@ -89,17 +91,21 @@ fn composition_rank(n: u32, chain: &[u32], k: usize, count: u32) -> u32
     while 0 < commas {
         left -= 1;
         let with_comma = share(count * commas as u32, left);
-        if 1 < d {
-            rank += with_comma;
-            count -= with_comma;
-            d -= 1;
-            continue;
-        }
-        count = with_comma;
-        d = poly::degree_of(chain[commas]);
-        commas -= 1;
+        let next = poly::degree_of(chain[commas]);
+        let plus = 1 < d;
+        rank += either(plus, with_comma, 0);
+        count = either(plus, count - with_comma, with_comma);
+        d = either(plus, d - 1, next);
+        commas -= either(plus, 0, 1) as usize;
     }
     rank
+}
+
+// One of two numbers, with no branch: nothing foretells the degrees.
+fn either(first: bool, a: u32, b: u32) -> u32
+    ensures { λ r. ⌜ r ≡ cond first a b ⌝ }
+{
+    if first { a } else { b }
 }
 
 struct BitsAndWord {

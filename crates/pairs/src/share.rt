@@ -12,12 +12,13 @@ pub(crate) fn share(x: u32, d: u32) -> u32
 }
 
 // The least whole number above 2^32 / d. Of the cases the compiler makes a table, where an array would be laid on the stack at each call;
-// no list has more than 30 gaps.
+// no list has more than 30 gaps. With 0 among them the division needs no test, which would cost the table.
 fn reciprocal(d: u32) -> u64
     requires { ⌜ 1 ≤ d ⌝ }
     ensures { λ r. ⌜ r ≡ 2 ^ 32 / d + 1 ⌝ }
 {
     match d {
+        0 => 1,
         1 => 4294967297,
         2 => 2147483649,
         3 => 1431655766,

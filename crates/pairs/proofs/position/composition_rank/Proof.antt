@@ -1,10 +1,15 @@
 -- `composition_rank` meets its contract. The invariant: the rank so far and that of the degrees that are left make the rank of all, and
 -- count is the number of compositions that the gaps left allow.
+use mathlib.Core.Bool.{cond}
 use mathlib.Core.List.{List, _∷_, map}
 use mathlib.Core.Path.{_≡_, sym, ap, _∙_}
-use Prim.Native.Nat.{ℕ, suc, _-_, _^_, _≤_, _<_}
+use Prim.Native.Nat.{ℕ, suc, _+_, _-_, _*_, _/_, _^_, _≤_, _<_}
+use native.Mathlib.Nat.{add-zero, sub-zero}
+use native.Mathlib.Decide.{decLt}
 use native.Mathlib.Omega.{arith}
 use borrow.Author.Needs.{needs}
+use borrow.Author.Tests.{lt-ltb, le-ltb}
+use lib.Dec.{ltb}
 use lib.ListN.{length, getD, length-map}
 use Rattle.poly.specs.Code.{degree}
 use Rattle.pairs.specs.Sequences.{compositions}
@@ -109,29 +114,6 @@ mul-share c = record { fits = share-fits (c .before .loop .inv .1) (c .before .b
 share-requires : tie.Need-share-requires Inv-loop μ-loop
 share-requires c κs = (omega (arith, two c), share-whole (c .before .loop .inv .1) (c .loop-test .taken))
 
-add-rank : tie.Need-add-rank Inv-loop μ-loop
-add-rank c =
-    let start = c .before .before .before .before .before .before .before in
-    let a = start .args in
-    let next = walked-plus (c .before .before .before .loop .inv .1) (c .before .before .loop-test .taken) (omega arith) in
-    omega (arith, c .before .share .ensures, next .rank-is, rank-lt (a .n) (a .chain .now) (a .k) (valid start) (omega arith))
-
-sub-count : tie.Need-sub-count Inv-loop μ-loop
-sub-count c = rw (c .before .share .ensures) (share-le (c .before .before .before .loop .inv .1) (c .before .before .loop-test .taken))
-
-sub-d : tie.Need-sub-d Inv-loop μ-loop
-sub-d c = omega arith
-
-loop-less : tie.Need-loop-less Inv-loop μ-loop
-loop-less c = omega (arith, two (c .before .before))
-
-loop-again : tie.Need-loop-again Inv-loop μ-loop
-loop-again c = (
-  c .before .before .before .loop .inv .0,
-  rw (c .before .share .ensures)
-      (walked-plus (c .before .before .before .loop .inv .1) (c .before .before .loop-test .taken) (omega arith)),
-)
-
 mul-degree-of-2 : tie.Need-mul-degree-of-2 Inv-loop μ-loop
 mul-degree-of-2 c = search needs
 
@@ -141,18 +123,79 @@ shared-slice-read-degree-of-2 c = search needs
 degree-of-requires-2 : tie.Need-degree-of-requires-2 Inv-loop μ-loop
 degree-of-requires-2 c κs = search needs
 
-sub-commas-2 : tie.Need-sub-commas-2 Inv-loop μ-loop
-sub-commas-2 c = omega arith
+either-requires : tie.Need-either-requires Inv-loop μ-loop
+either-requires c κs = search needs
 
-loop-less-2 : tie.Need-loop-less-2 Inv-loop μ-loop
-loop-less-2 c = omega (arith, two (c .before .before .before .before))
+-- one gap more, whichever it is
+turn : (n : ℕ) (all chain : List ℕ) {rank left count commas d next : ℕ} → 0 < commas → next ≡ degree 2 (getD chain commas 0)
+    → Walked n all rank left count commas d (degrees chain commas)
+    → Walked n all (rank + cond (ltb 1 d) (count * commas / (left - 1)) 0) (left - 1)
+    (cond (ltb 1 d) (count - count * commas / (left - 1)) (count * commas / (left - 1))) (commas - cond (ltb 1 d) 0 1)
+    (cond (ltb 1 d) (d - 1) next) (degrees chain (commas - cond (ltb 1 d) 0 1))
+turn n all chain {rank} {left} {count} {commas} {d} {next} h is w = elim (decLt 1 d) [
+  | yes l ↦ rw (lt-ltb 1 d l, sub-zero commas) (walked-plus w h l)
+  | no l ↦ rw (le-ltb 1 d (omega arith), add-zero rank) (walked-comma (rw (degrees-step chain commas h is) at w) (omega arith))
+]
 
-loop-again-2 : tie.Need-loop-again-2 Inv-loop μ-loop
-loop-again-2 c =
+walked-next : (c : tie.After-either Inv-loop μ-loop)
+    → let a = c .before .before .before .before .before .before .before .before .before .args in
     let l = c .before .before .before .before .before .loop in
-    let chain = c .before .before .before .before .before .before .before .before .before .args .chain .now in
-    let more = degrees-step chain (l .commas) (c .before .before .before .before .loop-test .taken) (c .degree-of2 .ensures) in
-    (omega (arith, l .inv .0), rw (c .before .before .before .share .ensures) (walked-comma (rw more at (l .inv .1)) (omega arith)))
+    let share : ℕ = c .before .before .before .share .result in
+    Walked (a .n) (degrees (a .chain .now) (a .k)) (l .rank + c .either .result) (l .left - 1)
+    (cond (ltb 1 (l .d)) (l .count - share) share) (l .commas - cond (ltb 1 (l .d)) 0 1)
+    (cond (ltb 1 (l .d)) (l .d - 1) (c .before .degree-of2 .result)) (degrees (a .chain .now) (l .commas - cond (ltb 1 (l .d)) 0 1))
+walked-next c =
+    let a = c .before .before .before .before .before .before .before .before .before .args in
+    rw (c .either .ensures, c .before .before .before .share .ensures)
+    (turn (a .n) (degrees (a .chain .now) (a .k)) (a .chain .now) (c .before .before .before .before .loop-test .taken)
+    (c .before .degree-of2 .ensures) (c .before .before .before .before .before .loop .inv .1))
+
+one-at-most : (d : ℕ) {commas : ℕ} → 0 < commas → cond (ltb 1 d) 0 1 ≤ commas
+one-at-most d h = elim (decLt 1 d) [
+  | yes l ↦ rw (lt-ltb 1 d l) (omega arith)
+  | no l ↦ rw (le-ltb 1 d (omega arith)) h
+]
+
+add-rank : tie.Need-add-rank Inv-loop μ-loop
+add-rank c =
+    let start = c .before .before .before .before .before .before .before .before .before in
+    let a = start .args in
+    let next = walked-next c in
+    record { fits = omega (arith, c .either .ensures, next .rank-is, rank-lt (a .n) (a .chain .now) (a .k) (valid start) (start .pre .0)) }
+
+sub-either : tie.Need-sub-either Inv-loop μ-loop
+sub-either c =
+    let turning = c .before .before .before .before in
+    rw (c .before .before .before .share .ensures) (share-le (turning .before .loop .inv .1) (turning .loop-test .taken))
+
+either-requires-2 : tie.Need-either-requires-2 Inv-loop μ-loop
+either-requires-2 c κs = search needs
+
+sub-either-2 : tie.Need-sub-either-2 Inv-loop μ-loop
+sub-either-2 c = c .before .before .before .before .before .before .loop .inv .1 .here
+
+either-requires-3 : tie.Need-either-requires-3 Inv-loop μ-loop
+either-requires-3 c κs = search needs
+
+either-requires-4 : tie.Need-either-requires-4 Inv-loop μ-loop
+either-requires-4 c κs = search needs
+
+cast-commas : tie.Need-cast-commas Inv-loop μ-loop
+cast-commas c = search needs
+
+sub-commas-2 : tie.Need-sub-commas-2 Inv-loop μ-loop
+sub-commas-2 c =
+    let turning = c .before .before .before .before .before .before .before in
+    rw (c .either4 .ensures) (one-at-most (turning .before .loop .d) (turning .loop-test .taken))
+
+loop-less : tie.Need-loop-less Inv-loop μ-loop
+loop-less c = omega (arith, two (c .before .before .before .before .before .before .before))
+
+loop-again : tie.Need-loop-again Inv-loop μ-loop
+loop-again c = (
+  omega (arith, c .before .before .before .before .before .before .before .before .loop .inv .0),
+  rw (c .before .before .either2 .ensures, c .before .either3 .ensures, c .either4 .ensures) (walked-next (c .before .before .before)),
+)
 
 returns : tie.Need-returns Inv-loop μ-loop
 returns c =
@@ -175,15 +218,18 @@ composition-rank-spec =
     cast-share
     mul-share
     share-requires
-    add-rank
-    sub-count
-    sub-d
-    loop-less
-    loop-again
     mul-degree-of-2
     shared-slice-read-degree-of-2
     degree-of-requires-2
+    either-requires
+    add-rank
+    sub-either
+    either-requires-2
+    sub-either-2
+    either-requires-3
+    either-requires-4
+    cast-commas
     sub-commas-2
-    loop-less-2
-    loop-again-2
+    loop-less
+    loop-again
     returns)

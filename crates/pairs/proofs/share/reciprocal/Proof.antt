@@ -48,4 +48,5 @@ reciprocal-spec =
     (λ c. at (c .match .keys28) refl)
     (λ c. at (c .match .keys29) refl)
     (λ c. at (c .match .keys30) refl)
+    (λ c. at (c .match .keys31) refl)
     (λ c. refl))
