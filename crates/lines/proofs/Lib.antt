@@ -3,4 +3,5 @@ pub mod Inputs
 pub mod Putting
 pub mod Decimals
 pub mod Lines
+pub mod Block
 pub mod Examples

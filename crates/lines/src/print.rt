@@ -9,6 +9,8 @@ use pairs::Filled;
 use poly::Count;
 use poly::Degree;
 ghost use Prim.Native.Nat.{_^_, _<_};
+ghost use Rattle.lines.specs.Text.{Lined};
+ghost use Rattle.lines.specs.Output.{lineFrom};
 
 // Answers the whole input of the program.
 pub fn answer(fd: i32, input: &[u8]) {
@@ -87,13 +89,17 @@ fn add_pair(
     requires { ⌜ (position < 2 ^ 63) × (i < 256) ⌝ }
 {
     let mut line = [0u8; 64];
-    let size = pair_line(
-        position + i as u64,
-        codes[2 * i],
-        codes[2 * i + 1],
-        &mut line,
-    );
+    let size = line_at(position, i, codes, &mut line);
     add(fd, buffer, used, &line[..size])
+}
+
+// The line of the i-th pair from a position on, from the codes of all of them. Where `pairs_from` gave these, it is the line of the pair's
+// own position (the law `block-lines`).
+fn line_at(position: u64, i: usize, codes: &[u32; 512], out: &mut [u8; 64]) -> usize
+    requires { ⌜ (position < 2 ^ 63) × (i < 256) ⌝ }
+    ensures { λ r. ⌜ Lined (now (out .entry)) (lineFrom position i (now (codes .entry))) r (now (out .exit)) ⌝ }
+{
+    pair_line(position + i as u64, codes[2 * i], codes[2 * i + 1], out)
 }
 
 // A line that does not fit is put at the front, once the buffer is written.

@@ -31,4 +31,5 @@ pub mod Gaps
 pub mod Heads
 pub mod Groups
 pub mod Listing
+pub mod From
 pub mod Examples

@@ -5,17 +5,14 @@ use native.Mathlib.Numerals.{add-one}
 use native.Mathlib.Omega.{arith}
 use mathlib.Core.Path.{_≡_, refl, sym, ap, _∙_}
 use mathlib.Core.List.{List, [], _++_, map}
-use lib.ListN.{length, drop, length-map, length-take}
-use lib.Seq.{getD-take, getD-drop}
+use lib.ListN.{length, length-map}
 use lib.Pow.{shl-exact}
 use Rattle.euclid.specs.Chain.{Pair}
 use Rattle.pairs.specs.Loops.{numbers, each}
 use Rattle.pairs.specs.Words.{words}
 use Rattle.pairs.specs.Sequences.{compositions, block, sequences}
-use Rattle.pairs.specs.Pairs.{start, build, pairs}
-use Rattle.pairs.specs.Replies.{pairsFrom}
+use Rattle.pairs.specs.Pairs.{build, pairs}
 use Rattle.pairs.specs.Filling.{Written}
-use Rattle.pairs.specs.Claims.{FromClaim}
 use Rattle.pairs.proofs.Loops.{map-each}
 use Rattle.pairs.proofs.Words.{listed-words}
 use Rattle.pairs.proofs.Compositions.{parts, listed-compositions}
@@ -95,11 +92,3 @@ module _ {n position k count skip done : ℕ} {old out : List ℕ} (going : Goin
             going .completes new′ all′
             (rw (next-block n k le) (joined v (rw (er ∙ ap (λ x. skip - x) size) at later)));
       }
-
--- ---- what is asked for
-pub from-entries : FromClaim
-unfolding pairsFrom
-from-entries n position room i h =
-    let rest : List Pair = drop position (pairs n) in
-    let few : i < room / 2 = omega (arith, length-take (room / 2) rest) in
-    getD-take (room / 2) rest i start few ∙ getD-drop position (pairs n) i start

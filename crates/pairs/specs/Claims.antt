@@ -1,6 +1,6 @@
 -- What is shown of the list, of the words and of the two calls.
 use mathlib.Core.Logic.{_↔_}
-use mathlib.Core.List.{[], _∷_, map}
+use mathlib.Core.List.{List, [], _∷_, map}
 use mathlib.Core.Path.{_≡_}
 use Prim.Native.Nat.{ℕ, _+_, _-_, _*_, _%_, _^_, _≤_, _<_}
 use lib.ListN.{length, getD}
@@ -10,8 +10,8 @@ use Rattle.euclid.specs.Chain.{Pair}
 use Rattle.pairs.specs.Loops.{numbers}
 use Rattle.pairs.specs.Counts.{sum, choose}
 use Rattle.pairs.specs.Words.{words}
-use Rattle.pairs.specs.Pairs.{start, pairs, entry, CoprimePair}
-use Rattle.pairs.specs.Replies.{pairAtReply, positionReply, pairsFrom}
+use Rattle.pairs.specs.Pairs.{pairs, entry, CoprimePair}
+use Rattle.pairs.specs.Replies.{pairAtReply, positionReply, fromReply, fromContent}
 
 -- There are (2^k + 2(-1)^k)/3 kept words of k letters: three times their number is 2^k + 2 for even k, 2^k - 2 for odd k.
 abbrev pub WordsClaim : Type 0
@@ -45,7 +45,9 @@ ListClaim = (n : ℕ) → 1 ≤ n → Complete n
 abbrev pub UndoClaim : Type 0
 UndoClaim = (n : ℕ) → 1 ≤ n → n ≤ 31 → (j f g : ℕ) → (pairAtReply n j ≡ served (f ∷ g ∷ [])) ↔ (positionReply n f g ≡ served (j ∷ []))
 
--- The pairs from a position on are those at the positions from there on.
+-- The call for many pairs writes what the pair call answers, position by position.
 abbrev pub FromClaim : Type 0
 FromClaim =
-    (n position room i : ℕ) → i < length (pairsFrom n position room) → getD (pairsFrom n position room) i start ≡ entry n (position + i)
+    (n position : ℕ) (out : List ℕ) (many i : ℕ) → fromReply n position (length out) ≡ served (many ∷ []) → i < many
+    → let now : List ℕ = fromContent n position out in
+    pairAtReply n (position + i) ≡ served (getD now (2 * i) 0 ∷ getD now (2 * i + 1) 0 ∷ [])
