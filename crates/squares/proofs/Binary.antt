@@ -1,12 +1,12 @@
--- The field of two elements, as machine words do it: an output cell is the parity of the ones in the code and the shifted line, and a
--- symbol is its row's part exclusive or its column's.
+-- The field of two elements, as machine words do it: an output cell is the parity of the ones in the code and the shifted line, and the
+-- symbol at a sum of sites, or of a row and a column, is the exclusive or of theirs.
 use mathlib.Core.Path.{_≡_, refl, sym, ap, ap₂, _∙_}
 use Prim.Native.Nat.{ℕ, zero, suc, _+_, _-_, _*_, _/_, _%_, _^_, _<_, min}
 use native.Mathlib.Nat
 use native.Mathlib.Nat.{le-refl, mod-lt, div-add-mod'}
 use native.Mathlib.Omega.{arith}
 use lib.Arith.{digits-div, digits-mod}
-use lib.Bits.{bitAnd, bitXor, and-step}
+use lib.Bits.{bitAnd, bitXor, and-step, xor-self}
 use lib.Count.{ones, ones-step}
 use lib.ListN.{getD}
 use lib.Pow.{pow-pos}
@@ -87,6 +87,18 @@ site-add n {f} a b f-lt =
     rw (Codes.add-div 2 (le-refl 2) n a b, Codes.add-mod 2 (le-refl 2) n a b)
     (Linear.symbol-add 2 (le-refl 2) n f-lt (a / 2 ^ n) (b / 2 ^ n) (mod-lt a (pow-pos n)) (mod-lt b (pow-pos n))
     ∙ add-xor (atSite n f a) (atSite n f b))
+
+pub site-zero : (n : ℕ) {f : ℕ} → f < 2 ^ suc n → atSite n f 0 ≡ 0
+unfolding add
+site-zero n {f} f-lt = site-add n 0 0 f-lt ∙ xor-self (atSite n f 0)
+
+-- The sites from 2^m on repeat those before.
+pub site-next : (n m : ℕ) {f i : ℕ} → f < 2 ^ suc n → i < 2 ^ m
+    → atSite n f (2 ^ m + i) ≡ bitXor (atSite n f i) (atSite n f (2 ^ m))
+site-next n m {f} {i} f-lt l =
+    let whole : add 2 i (2 ^ m) ≡ 2 ^ m + i =
+    Ring.add-comm 2 (le-refl 2) i (2 ^ m) ∙ rw Nat.one-mul at (Blocks.add-parts 2 (le-refl 2) m 1 l) in
+    ap (atSite n f) (sym whole) ∙ site-add n i (2 ^ m) f-lt
 
 -- At a power of two, it is the middle of the code shifted.
 pub unit-middle : (n m : ℕ) {f : ℕ} → f < 2 ^ suc n → atSite n f (2 ^ m) ≡ middle 2 n (f * 2 ^ m)

@@ -7,7 +7,9 @@ pub mod Orthogonal
 pub mod Places
 pub mod Binary
 pub mod Exchanges
+pub mod Runs
 pub mod Sheets
+pub mod Bytes
 pub mod Served
 pub mod Orders
 pub mod Claims

@@ -1,6 +1,6 @@
 -- What a sheet holds: blocks of equal length stand one after the other, rows in the sheet and sites in a row.
 use mathlib.Core.Logic.{_⊎_, inl, inr}
-use mathlib.Core.Path.{_≡_, refl, sym, ap₂, _∙_}
+use mathlib.Core.Path.{_≡_, refl, sym, _∙_}
 use mathlib.Core.List.{List, _++_}
 use Prim.Native.Nat.{ℕ, zero, suc, _+_, _*_, _^_, _<_}
 use native.Mathlib.Nat
@@ -8,6 +8,7 @@ use native.Mathlib.Nat.{eq-or-lt-of-le, le-of-suc-le-suc}
 use native.Mathlib.Omega.{arith}
 use lib.Arith.{digits-lt}
 use lib.ListN.{length, getD, length-append, List·getD-append}
+use lib.Pow.{pow-pos, pow-add}
 use lib.Seq.{getD-append-add}
 use Rattle.squares.specs.Squares.{Square}
 use Rattle.squares.specs.Symbols.{symbol}
@@ -15,7 +16,7 @@ use Rattle.squares.specs.Sheets.{each, siteBytes, rowBytes, sheet}
 use Rattle.squares.specs.Replies.{sheetOf}
 
 module _ (h : ℕ → List ℕ) (w : ℕ) (width : (i : ℕ) → length (h i) ≡ w) where
-  pub each-length : (k : ℕ) → length (each k h) ≡ k * w
+  each-length : (k : ℕ) → length (each k h) ≡ k * w
   each-length zero = sym (Nat.zero-mul w)
   each-length (suc k) = length-append (each k h) (h k) ∙ rw (each-length k, width k) (sym (Nat.suc-mul k w))
 
@@ -29,16 +30,11 @@ module _ (h : ℕ → List ℕ) (w : ℕ) (width : (i : ℕ) → length (h i) �
       go ih (inr less) =
           List·getD-append (each k h) (h k) 0 (i * w + j) (rw (each-length k) (digits-lt less hj)) ∙ ih less
 
--- Blocks that are equal one by one.
-pub each-equal : {h h′ : ℕ → List ℕ} (k : ℕ) → ((i : ℕ) → i < k → h i ≡ h′ i) → each k h ≡ each k h′
-each-equal zero e = refl
-each-equal (suc k) e = ap₂ _++_ (each-equal k (λ i l. e i (omega arith))) (e k (omega arith))
-
 module _ (N : ℕ) (first second : Square) where
-  pub row-length : (row : ℕ) → length (rowBytes N first second row) ≡ N * 2
-  row-length row = each-length (siteBytes first second row) 2 (λ col. refl) N
+  row-length : (row : ℕ) → length (rowBytes N first second row) ≡ N * 2
+  row-length row = each-length _ 2 (λ col. refl) N
 
-  pub sheet-length : length (sheet N first second) ≡ N * (N * 2)
+  sheet-length : length (sheet N first second) ≡ N * (N * 2)
   unfolding sheet
   sheet-length = each-length (rowBytes N first second) (N * 2) row-length N
 
@@ -57,6 +53,12 @@ pub four-pow : (n : ℕ) → 4 ^ n ≡ 2 ^ n * 2 ^ n
 four-pow zero = refl
 four-pow (suc n) =
     rw (Nat.pow-suc 4 n, four-pow n, Nat.pow-suc 2 n) (simp (Nat.mul-assoc, Nat.mul-comm, Nat.mul-left-comm) (omega arith))
+
+pub square-is : (n : ℕ) → 2 ^ (2 * n) ≡ 4 ^ n
+square-is n = let e : 2 * n ≡ n + n = omega arith in rw e (pow-add 2 n n ∙ sym (four-pow n))
+
+pub four-pos : (n : ℕ) → 0 < 4 ^ n
+four-pos n = rw (← square-is n) (pow-pos (2 * n))
 
 pub sheetOf-length : (n f g : ℕ) → length (sheetOf n f g) ≡ 2 * 4 ^ n
 unfolding sheetOf

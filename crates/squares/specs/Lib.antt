@@ -3,5 +3,5 @@ pub mod Symbols
 pub mod Sheets
 pub mod Replies
 pub mod Claims
-pub mod Parts
+pub mod Doubling
 pub mod Lines

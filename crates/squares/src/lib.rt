@@ -3,14 +3,13 @@ use poly::Checked;
 use poly::Degree;
 use reply::Refusal;
 ghost use mathlib.Core.Path.{_≡_};
-ghost use Prim.Native.Nat.{suc, _-_, _*_, _/_, _%_, _^_, _≤_, _<_};
+ghost use Prim.Native.Nat.{suc, _+_, _-_, _*_, _/_, _%_, _^_, _≤_, _<_};
 ghost use mathlib.Core.List.{[], _∷_, _++_};
-ghost use lib.ListN.{length, drop};
-ghost use lib.Seq.{sets};
+ghost use lib.ListN.{length, getD, drop};
 ghost use Rattle.reply.specs.Reply.{served};
 ghost use Rattle.squares.specs.Symbols.{number, symbol};
 ghost use Rattle.squares.specs.Replies.{symbolsReply, siteReply, laidReply, sheetReply, sheetOf, sheetBytes};
-ghost use Rattle.squares.specs.Parts.{Parts, Doubled, rowFrom};
+ghost use Rattle.squares.specs.Doubling.{Alternating, Whole, Added};
 ghost use Rattle.squares.specs.Lines.{parity, Moved, exchanged, Lower};
 
 // The symbols of f and of g at a site, or why there are none.
@@ -108,20 +107,20 @@ pub fn sheet(n: u32, f: u32, g: u32, out: &mut [u8]) -> Laid
     Laid::Done
 }
 
-// The symbols at the multiples of 2^shift: with shift n those of column 0, with shift 0 those of row 0. A symbol is linear in the site, so
-// that each power of two doubles the table.
-fn parts(n: u32, code: u32, shift: u32) -> [u8; 64]
-    requires { ⌜ (n < 7) × (code < 2 ^ suc n) × (shift < 7) ⌝ }
-    ensures { λ r. ⌜ Parts n code shift n r ⌝ }
+// The sheet, site by site: a symbol is linear in the site's number row * 2^n + col, so that the sites from 2^m to 2^(m+1) - 1 are those
+// before them, each exclusive or the symbols at site 2^m.
+fn fill(n: u32, f: u32, g: u32, out: &mut [u8])
+    requires { ⌜ (n < 7) × (f < 2 ^ suc n) × (g < 2 ^ suc n) × (2 * 4 ^ n ≤ length (now out)) ⌝ }
+    ensures { λ _. ⌜ now (out .exit) ≡ sheetOf n f g ++ drop (2 * 4 ^ n) (now (out .entry)) ⌝ }
 {
-    let mut table = [0u8; 64];
-    let mut j: u32 = 0;
-    while j < n {
-        let part = unit_symbol(n, code, shift + j);
-        double(&mut table, 1 << j, part);
-        j += 1;
+    out[0] = 0;
+    out[1] = 0;
+    let mut m: u32 = 0;
+    while m < 2 * n {
+        let pattern = alternating(unit_symbol(n, f, m), unit_symbol(n, g, m));
+        double(out, 2 << m, &pattern);
+        m += 1;
     }
-    table
 }
 
 // The symbol at the site 2^m, whose line has a single one: n bits of the code times x^m, from that of x^n on.
@@ -132,48 +131,42 @@ fn unit_symbol(n: u32, code: u32, m: u32) -> u8
     ((((code as u64) << m) >> n) % (1u64 << n)) as u8
 }
 
-// Behind the first `count` entries, the same exclusive or a part.
-fn double(table: &mut [u8], count: usize, part: u8)
-    requires { ⌜ (count ≤ 32) × (2 * count ≤ length (now table)) ⌝ }
-    ensures { λ _. ⌜ Doubled (now (table .entry)) count part (now (table .exit)) ⌝ }
+// f, g, f, g, ..
+fn alternating(f: u8, g: u8) -> [u8; 128]
+    ensures { λ r. ⌜ Alternating f g r ⌝ }
+{
+    let mut pattern = [0u8; 128];
+    let mut i: usize = 0;
+    while i < 64 {
+        pattern[2 * i] = f;
+        pattern[2 * i + 1] = g;
+        i += 1;
+    }
+    pattern
+}
+
+// Behind the first `size` bytes, the same exclusive or the pattern, which is repeated.
+fn double(out: &mut [u8], size: usize, pattern: &[u8; 128])
+    requires { ⌜ (size ≤ 4096) × (2 * size ≤ length (now out)) × Whole size ⌝ }
+    ensures { λ _. ⌜ Added (now (out .entry)) 0 size size (λ i. getD (now (pattern .entry)) (i % 128) 0) (now (out .exit)) ⌝ }
+{
+    let count = if size < 128 { size } else { 128 };
+    let mut at: usize = 0;
+    while at < size {
+        add_block(out, at, size + at, count, pattern);
+        at += count;
+    }
+}
+
+// The `count` bytes from `to` on: those from `from` on, exclusive or the pattern. A loop of its own, so that the compiler takes several
+// bytes at once.
+fn add_block(out: &mut [u8], from: usize, to: usize, count: usize, pattern: &[u8; 128])
+    requires { ⌜ (count ≤ 128) × (from + count ≤ to) × (to ≤ 8192) × (to + count ≤ length (now out)) ⌝ }
+    ensures { λ _. ⌜ Added (now (out .entry)) from to count (λ i. getD (now (pattern .entry)) i 0) (now (out .exit)) ⌝ }
 {
     let mut i: usize = 0;
     while i < count {
-        table[count + i] = table[i] ^ part;
+        out[to + i] = out[from + i] ^ pattern[i];
         i += 1;
-    }
-}
-
-// The sheet, row by row: a symbol is its row's part exclusive or its column's.
-fn fill(n: u32, f: u32, g: u32, out: &mut [u8])
-    requires { ⌜ (n < 7) × (f < 2 ^ suc n) × (g < 2 ^ suc n) × (2 * 4 ^ n ≤ length (now out)) ⌝ }
-    ensures { λ _. ⌜ now (out .exit) ≡ sheetOf n f g ++ drop (2 * 4 ^ n) (now (out .entry)) ⌝ }
-{
-    let order: usize = 1 << n;
-    let f_rows = parts(n, f, n);
-    let f_cols = parts(n, f, 0);
-    let g_rows = parts(n, g, n);
-    let g_cols = parts(n, g, 0);
-    let mut row: usize = 0;
-    while row < order {
-        fill_row(order, row, f_rows[row], g_rows[row], &f_cols, &g_cols, out);
-        row += 1;
-    }
-}
-
-// A row of it, from the row's parts f and g and the columns' fs and gs. A loop of its own, so that the compiler takes several columns at
-// once.
-fn fill_row(order: usize, row: usize, f: u8, g: u8, fs: &[u8; 64], gs: &[u8; 64], out: &mut [u8])
-    requires { ⌜ (order ≤ 64) × (row < order) × (2 * (order * order) ≤ length (now out)) ⌝ }
-    ensures { λ _.
-        ⌜ now (out .exit) ≡ sets (now (out .entry)) (2 * (row * order)) (rowFrom order f g (now (fs .entry)) (now (gs .entry))) ⌝ }
-{
-    let start = row * order;
-    let mut col: usize = 0;
-    while col < order {
-        let place = 2 * (start + col);
-        out[place] = f ^ fs[col];
-        out[place + 1] = g ^ gs[col];
-        col += 1;
     }
 }

@@ -1,163 +1,190 @@
--- `fill` meets its contract. The invariant: the bytes of the first rows are stored.
-use mathlib.Core.Path.{_≡_, refl, sym, ap, ap₂, _∙_}
-use mathlib.Core.List.{List, _++_, [], _∷_}
-use Prim.Native.Nat.{ℕ, suc, _+_, _-_, _*_, _^_, _≤_, _<_}
-use native.Mathlib.Nat
+-- `fill` meets its contract. The invariant: the bytes of the first 2^m sites are stored. By linearity, those of the next 2^m are the same
+-- exclusive or the symbols at site 2^m.
+use mathlib.Core.Logic.{inl, inr}
+use mathlib.Core.Path.{_≡_, refl, sym, ap, _∙_}
+use mathlib.Core.List.{List, _++_}
+use Prim.Native.Nat.{ℕ, zero, suc, _+_, _-_, _*_, _%_, _^_, _≤_, _<_}
+use native.Mathlib.Nat.{pow-suc, zero-add}
+use native.Mathlib.Decide.{decLt}
 use native.Mathlib.Numerals.{add-one}
 use native.Mathlib.Omega.{arith}
-use lib.Bits.{bitXor}
+use borrow.Author.Needs.{needs}
 use lib.Dec.{lit<}
-use lib.ListN.{length, getD, drop}
-use lib.Seq.{sets, length-sets, sets-eq}
-use lib.Pow.{pow-pos}
-use Rattle.poly.proofs.Stores.{sets-append}
-use Rattle.squares.specs.Symbols.{symbol}
-use Rattle.squares.specs.Sheets.{each, rowBytes, sheet}
+use lib.ListN.{length, getD, set, drop, length-set, length-append, length-drop, List·getD-append}
+use lib.Pow.{pow-mono, pow-add, shl-exact}
+use lib.Seq.{getD-set-same, getD-set-other, getD-append-add, getD-drop, ext-getD}
 use Rattle.squares.specs.Replies.{sheetOf}
-use Rattle.squares.specs.Parts.{Parts, rowFrom}
-use Rattle.squares.proofs.Binary.{symbol-parts}
-use Rattle.squares.proofs.Sheets.{sheetOf-length, each-length, each-equal, row-length}
-use Rattle.squares.proofs.Orders.{shifted, order-le, room-is}
+use Rattle.squares.specs.Doubling.{byTurns, Alternating, Whole, Added}
+use Rattle.squares.proofs.Binary.{atSite, site-zero}
+use Rattle.squares.proofs.Sheets.{square-is, four-pos, sheetOf-length}
+use Rattle.squares.proofs.Bytes.{byteOf, byte-next, byte-is}
 use Rattle.squares.proofs.fill.Statement.{statement}
 use Rattle.squares.proofs.fill.Tie as tie
 
--- what the tables hold
-record Tables (n f g order : ℕ) (f-rows f-cols g-rows g-cols : List ℕ) : Type 0 where
-  degree : n < 7
-  f-small : f < 2 ^ suc n
-  g-small : g < 2 ^ suc n
-  is : order ≡ 2 ^ n
-  f-row : Parts n f n n f-rows
-  f-col : Parts n f 0 n f-cols
-  g-row : Parts n g n n g-rows
-  g-col : Parts n g 0 n g-cols
+-- what is stored: the bytes of the first 2^m sites, and behind them what was there
+record Filled (n f g m : ℕ) (lent out : List ℕ) : Type 0 where
+  long : length out ≡ length lent
+  low : (j : ℕ) → j < 2 * 2 ^ m → getD out j 0 ≡ byteOf n f g j
+  high : (j : ℕ) → 2 * 2 ^ m ≤ j → getD out j 0 ≡ getD lent j 0
 
--- the bytes of a row of the sheet
-abbrev rowOf : ℕ → ℕ → ℕ → ℕ → List ℕ
-rowOf n f g = rowBytes (2 ^ n) (symbol 2 n f) (symbol 2 n g)
+-- the bytes with those of site 0
+abbrev begun : List ℕ → List ℕ
+begun lent = set (set lent 0 0) 1 0
 
--- a symbol from its parts
-joined : {n code row col : ℕ} {rows cols : List ℕ} → code < 2 ^ suc n → Parts n code n n rows → Parts n code 0 n cols
-    → row < 2 ^ n → col < 2 ^ n → bitXor (getD rows row 0) (getD cols col 0) ≡ symbol 2 n code row col
-joined {n} {code} {row} {col} {rows} {cols} small r c row-lt col-lt =
-    let from-row : getD rows row 0 ≡ symbol 2 n code row 0 =
-    r .at row row-lt ∙ rw (Nat.mul-div-cancel row (pow-pos n), Nat.mul-mod-left row (2 ^ n)) in
-    let from-col : getD cols col 0 ≡ symbol 2 n code 0 col =
-    c .at col col-lt ∙ rw (Nat.mul-one col, Nat.div-eq-of-lt col-lt, Nat.mod-eq-of-lt col-lt) in
-    ap₂ (λ (u v : ℕ). bitXor u v) from-row from-col ∙ sym (symbol-parts n row small col-lt)
+begun-length : (lent : List ℕ) → length (begun lent) ≡ length lent
+begun-length lent = length-set (set lent 0 0) 1 0 ∙ length-set lent 0 0
 
-module _ {n f g order : ℕ} {f-rows f-cols g-rows g-cols : List ℕ} (t : Tables n f g order f-rows f-cols g-rows g-cols) where
-  row-is : {row : ℕ} → row < order → rowFrom order (getD f-rows row 0) (getD g-rows row 0) f-cols g-cols ≡ rowOf n f g row
-  row-is {row} l =
-      let row-lt : row < 2 ^ n = rw (t .is) at l in
-      rw (t .is)
-      (each-equal (2 ^ n) (λ col h.
-      ap₂ (λ (u v : ℕ). u ∷ v ∷ []) (joined (t .f-small) (t .f-row) (t .f-col) row-lt h)
-      (joined (t .g-small) (t .g-row) (t .g-col) row-lt h)))
+begun-high : (lent : List ℕ) (j : ℕ) → 2 ≤ j → getD (begun lent) j 0 ≡ getD lent j 0
+begun-high lent j h =
+    getD-set-other (set lent 0 0) 1 j 0 0 (λ e. omega arith) ∙ getD-set-other lent 0 j 0 0 (λ e. omega arith)
 
-  few : order ≤ 64
-  few = rw (t .is) (order-le n (t .degree))
+module _ (n : ℕ) {f g : ℕ} (f-small : f < 2 ^ suc n) (g-small : g < 2 ^ suc n) where
+  start : (lent : List ℕ) → 1 < length lent → Filled n f g 0 (begun lent) (begun lent)
+  start lent room = record { long = refl; low = low; high = λ j h. refl }
+    where
+      low : (j : ℕ) → j < 2 → getD (begun lent) j 0 ≡ byteOf n f g j
+      low zero h =
+          getD-set-other (set lent 0 0) 1 0 0 0 (λ e. omega arith) ∙ getD-set-same lent 0 0 0 (omega arith) ∙ sym (site-zero n f-small)
+      low (suc zero) h = getD-set-same (set lent 0 0) 1 0 0 (rw length-set room) ∙ sym (site-zero n g-small)
+      low (suc (suc j)) h = absurd (omega arith)
 
-  -- one row more
-  more : {row : ℕ} (lent : List ℕ) {out out′ : List ℕ} → row < order → out ≡ sets lent 0 (each row (rowOf n f g))
-      → out′ ≡ sets out (2 * (row * order)) (rowFrom order (getD f-rows row 0) (getD g-rows row 0) f-cols g-cols)
-      → out′ ≡ sets lent 0 (each (row + 1) (rowOf n f g))
-  more {row} lent l is stored =
-      let long : length (each row (rowOf n f g)) ≡ row * (2 ^ n * 2) =
-      each-length (rowOf n f g) (2 ^ n * 2) (row-length (2 ^ n) (symbol 2 n f) (symbol 2 n g)) row in
-      let regroup : row * (2 ^ n * 2) ≡ row * 2 ^ n * 2 = sym (Nat.mul-assoc row (2 ^ n) 2) in
-      let next : 2 * (row * order) ≡ 0 + length (each row (rowOf n f g)) = rw (t .is) (omega arith) in
-      stored ∙ rw (is, row-is l, next, add-one row) (sym (sets-append lent 0 (each row (rowOf n f g)) (rowOf n f g row)))
+  -- twice as many
+  turn : {m : ℕ} {lent out out′ pattern : List ℕ} → Filled n f g m lent out
+      → Alternating (atSite n f (2 ^ m)) (atSite n g (2 ^ m)) pattern
+      → Added out 0 (2 * 2 ^ m) (2 * 2 ^ m) (λ i. getD pattern (i % 128) 0) out′ → Filled n f g (suc m) lent out′
+  turn {m} {lent} {out} {out′} {pattern} s p a = record {
+    long = a .long ∙ s .long;
+    low = low;
+    high = λ j h. a .high j (omega (arith, pow-suc 2 m)) ∙ s .high j (omega (arith, pow-suc 2 m));
+  }
+    where
+      part : (k : ℕ) → getD pattern (k % 128) 0 ≡ byTurns (atSite n f (2 ^ m)) (atSite n g (2 ^ m)) k
+      part k =
+          let same : k % 128 % 2 ≡ k % 2 = omega arith in
+          p .at (k % 128) (omega arith) ∙ rw same
+
+      low : (j : ℕ) → j < 2 * 2 ^ suc m → getD out′ j 0 ≡ byteOf n f g j
+      low j h = elim (decLt j (2 * 2 ^ m)) [
+        | yes l ↦ a .low j l ∙ s .low j l
+        | no l ↦ let k : ℕ = j - 2 * 2 ^ m in
+            let below : k < 2 * 2 ^ m = omega (arith, pow-suc 2 m) in
+            let whole : j ≡ 2 * 2 ^ m + k = omega arith in
+            ap (λ v. getD out′ v 0) whole ∙ a .new k below
+            ∙ rw (zero-add k, s .low k below, part k) (sym (byte-next n f-small g-small m k below)) ∙ ap (byteOf n f g) (sym whole)
+      ]
 
 -- all of them
-finished : (n f g : ℕ) (lent : List ℕ) → 2 * 4 ^ n ≤ length lent
-    → sets lent 0 (each (2 ^ n) (rowOf n f g)) ≡ sheetOf n f g ++ drop (2 * 4 ^ n) lent
-unfolding sheetOf sheet
-finished n f g lent room =
-    let long : length (each (2 ^ n) (rowOf n f g)) ≡ 2 * 4 ^ n = sheetOf-length n f g in
-    sets-eq (each (2 ^ n) (rowOf n f g)) lent 0 (omega arith) ∙ rw (Nat.zero-add _, long)
+finished : (n f g : ℕ) (lent : List ℕ) {out : List ℕ} → 2 * 4 ^ n ≤ length lent → Filled n f g (2 * n) (begun lent) out
+    → out ≡ sheetOf n f g ++ drop (2 * 4 ^ n) lent
+finished n f g lent {out} room s =
+    ext-getD 0 out (sheetOf n f g ++ drop (2 * 4 ^ n) lent) (s .long ∙ begun-length lent ∙ sym all) (λ j h. at j)
+  where
+    size : 2 * 2 ^ (2 * n) ≡ 2 * 4 ^ n
+    size = ap (λ v. 2 * v) (square-is n)
+
+    all : length (sheetOf n f g ++ drop (2 * 4 ^ n) lent) ≡ length lent
+    all =
+        rw (length-append (sheetOf n f g) (drop (2 * 4 ^ n) lent), sheetOf-length n f g, length-drop (2 * 4 ^ n) lent) (omega arith)
+
+    at : (j : ℕ) → getD out j 0 ≡ getD (sheetOf n f g ++ drop (2 * 4 ^ n) lent) j 0
+    at j = elim (decLt j (2 * 4 ^ n)) [
+      | yes l ↦ s .low j (rw size l)
+          ∙ sym (List·getD-append (sheetOf n f g) (drop (2 * 4 ^ n) lent) 0 j (rw (sheetOf-length n f g) l) ∙ byte-is n f g j l)
+      | no l ↦ let k : ℕ = j - 2 * 4 ^ n in
+          let whole : j ≡ 2 * 4 ^ n + k = omega arith in
+          let there : j ≡ length (sheetOf n f g) + k = rw (sheetOf-length n f g) whole in
+          s .high j (rw size (omega arith)) ∙ begun-high lent j (omega (arith, four-pos n)) ∙ ap (λ v. getD lent v 0) whole
+          ∙ sym (ap (λ v. getD (sheetOf n f g ++ drop (2 * 4 ^ n) lent) v 0) there
+          ∙ getD-append-add (sheetOf n f g) (drop (2 * 4 ^ n) lent) k 0 ∙ getD-drop (2 * 4 ^ n) lent k 0)
+    ]
+
+-- the size that is doubled
+size-is : (m : ℕ) → m < 12 → 2 * 2 ^ m % 2 ^ 64 ≡ 2 * 2 ^ m
+size-is m l = shl-exact {a = 2} 2 m 64 (lit< tt) (omega arith)
+
+whole-size : (m : ℕ) → Whole (2 * 2 ^ m)
+whole-size m = elim (decLt m 6) [
+  | yes l ↦ inl (let few : 2 ^ m ≤ 2 ^ 5 = pow-mono {i = m} {j = 5} (omega arith) in omega arith)
+  | no l ↦ let k : ℕ = m - 6 in
+      let e : m ≡ 6 + k = omega arith in
+      inr (rw (e, pow-add 2 6 k) (omega arith))
+]
 
 abbrev Inv-loop : tie.InvT-loop
-Inv-loop n f g out₀ order f-rows f-cols g-rows g-cols row₀ out row =
-    Tables n f g order f-rows f-cols g-rows g-cols × (row ≤ order) × (out ≡ sets out₀ 0 (each row (rowOf n f g)))
+Inv-loop n f g out₀ m₀ out m = (m ≤ 2 * n) × Filled n f g m out₀ out
 
 abbrev μ-loop : tie.MeasureT-loop
-μ-loop n f g out₀ order f-rows f-cols g-rows g-cols row₀ out row = order - row
+μ-loop n f g out₀ m₀ out m = 2 * n - m
 
-shl-order : tie.Need-shl-order Inv-loop μ-loop
-shl-order c = omega arith
+room : (s : tie.Start Inv-loop μ-loop) → 1 < length (s .args .out .now)
+room s = omega (arith, four-pos (s .args .n), s .pre .3)
 
-parts-requires : tie.Need-parts-requires Inv-loop μ-loop
-parts-requires c κs = (c .before .pre .0, c .before .pre .1, c .before .pre .0)
+few : (c : tie.In-loop Inv-loop μ-loop) → c .before .loop .m < 12
+few c = let taken = c .loop-test .taken in omega arith
 
-parts-requires-2 : tie.Need-parts-requires-2 Inv-loop μ-loop
-parts-requires-2 c κs = (c .before .before .pre .0, c .before .before .pre .1, lit< tt)
+slice-write-out : tie.Need-slice-write-out Inv-loop μ-loop
+slice-write-out c = omega (arith, room (c .before))
 
-parts-requires-3 : tie.Need-parts-requires-3 Inv-loop μ-loop
-parts-requires-3 c κs =
-    let start = c .before .before .before in (start .pre .0, start .pre .2, start .pre .0)
-
-parts-requires-4 : tie.Need-parts-requires-4 Inv-loop μ-loop
-parts-requires-4 c κs = let start = c .before .before .before .before in (start .pre .0, start .pre .2, lit< tt)
+slice-write-out-2 : tie.Need-slice-write-out-2 Inv-loop μ-loop
+slice-write-out-2 c = rw length-set (room (c .before))
 
 loop-holds : tie.Need-loop-holds Inv-loop μ-loop
-loop-holds c =
-    let start = c .before .before .before .before .before in (
-      record {
-        degree = start .pre .0;
-        f-small = start .pre .1;
-        g-small = start .pre .2;
-        is = shifted (start .args .n) (start .pre .0);
-        f-row = c .before .before .before .parts .ensures;
-        f-col = c .before .before .parts2 .ensures;
-        g-row = c .before .parts3 .ensures;
-        g-col = c .parts4 .ensures;
-      },
-      omega arith,
-      refl,
-    )
+loop-holds c = let s = c .before in (omega arith, start (s .args .n) (s .pre .1) (s .pre .2) (s .args .out .now) (room s))
 
-array-read-fill-row : tie.Need-array-read-fill-row Inv-loop μ-loop
-array-read-fill-row c = omega (arith, few (c .before .loop .inv .0))
+mul-loop : tie.Need-mul-loop Inv-loop μ-loop
+mul-loop c = record { fits = omega arith }
 
-array-read-fill-row-2 : tie.Need-array-read-fill-row-2 Inv-loop μ-loop
-array-read-fill-row-2 c = omega (arith, few (c .before .loop .inv .0))
+unit-symbol-requires : tie.Need-unit-symbol-requires Inv-loop μ-loop
+unit-symbol-requires c κs = let s = c .before .before .before in (s .pre .0, s .pre .1, few c)
 
-fill-row-requires : tie.Need-fill-row-requires Inv-loop μ-loop
-fill-row-requires c κs =
-    let loop = c .before .before .before .before .loop in
-    let start = c .before .before .before .before .before .before .before .before .before .before in
-    let kept : length (loop .out) ≡ length (start .args .out .now) = rw (loop .inv .2, length-sets) in (
-      few (loop .inv .0),
-      c .before .before .before .loop-test .taken,
-      rw (room-is (start .args .n) (start .pre .0), kept) (start .pre .3),
-    )
+unit-symbol-requires-2 : tie.Need-unit-symbol-requires-2 Inv-loop μ-loop
+unit-symbol-requires-2 c κs = let s = c .before .before .before .before in (s .pre .0, s .pre .2, few (c .before))
 
-add-row : tie.Need-add-row Inv-loop μ-loop
-add-row c =
-    let loop = c .before .before .before .before .before .before .before .loop in
-    record { fits = omega (arith, few (loop .inv .0), c .before .before .before .before .before .before .loop-test .taken) }
+alternating-requires : tie.Need-alternating-requires Inv-loop μ-loop
+alternating-requires c κs = search needs
+
+cast-double : tie.Need-cast-double Inv-loop μ-loop
+cast-double c = record { fits = omega (arith, few (c .before .before .before .before)) }
+
+shl-double : tie.Need-shl-double Inv-loop μ-loop
+shl-double c = omega (arith, few (c .before .before .before .before))
+
+double-requires : tie.Need-double-requires Inv-loop μ-loop
+double-requires c κs =
+    let s = c .before .before .before .before .before .before .before .before in
+    let loop = c .before .before .before .before .before .before .loop in
+    let long = loop .inv .1 .long ∙ begun-length (s .args .out .now) in
+    let m-few = few (c .before .before .before .before .before) in
+    let small : 2 ^ loop .m ≤ 2 ^ 11 = pow-mono {i = loop .m} {j = 11} (omega arith) in
+    let fits : 2 ^ suc (loop .m) ≤ 2 ^ (2 * s .args .n) = pow-mono {i = suc (loop .m)} {j = 2 * s .args .n} (omega arith) in
+    rw (size-is (loop .m) m-few)
+    (omega arith, omega (arith, pow-suc 2 (loop .m), square-is (s .args .n), s .pre .3, long), whole-size (loop .m))
+
+add-m : tie.Need-add-m Inv-loop μ-loop
+add-m c = record { fits = omega (arith, few (c .before .before .before .before .before .before .before .before)) }
 
 loop-less : tie.Need-loop-less Inv-loop μ-loop
-loop-less c = let taken = c .before .before .before .before .before .before .loop-test .taken in omega arith
+loop-less c = let taken = c .before .before .before .before .before .before .before .before .loop-test .taken in omega arith
 
 loop-again : tie.Need-loop-again Inv-loop μ-loop
 loop-again c =
-    let taken = c .before .before .before .before .before .before .loop-test .taken in
-    let loop = c .before .before .before .before .before .before .before .loop in
-    let start = c .before .before .before .before .before .before .before .before .before .before .before .before .before in
-    (loop .inv .0, omega arith, more (loop .inv .0) (start .args .out .now) taken (loop .inv .2) (c .before .before .fill-row .ensures))
+    let this = c .before .before .before .before .before .before .before .before in
+    let loop = this .before .loop in
+    let s = this .before .before .before in
+    let doubled = rw (size-is (loop .m) (few this)) at (c .before .before .double .ensures) in
+    let made = c .before .before .before .before .before in
+    let pattern =
+    rw (made .before .before .unit-symbol .ensures, made .before .unit-symbol2 .ensures) at (made .alternating .ensures) in
+    (omega (arith, this .loop-test .taken), rw add-one (turn (s .args .n) (s .pre .1) (s .pre .2) (loop .inv .1) pattern doubled))
 
 same-length : tie.Need-same-length Inv-loop μ-loop
-same-length c = rw (c .before .loop .inv .2, length-sets)
+same-length c = c .before .loop .inv .1 .long ∙ begun-length (c .before .before .before .args .out .now)
 
 returns : tie.Need-returns Inv-loop μ-loop
 returns c =
-    let loop = c .before .loop in
-    let start = c .before .before .before .before .before .before .before in
-    let all : loop .row ≡ 2 ^ start .args .n = rw (← loop .inv .0 .is) (omega arith) in
-    loop .inv .2 ∙ ap (λ v. sets (start .args .out .now) 0 (each v (rowOf (start .args .n) (start .args .f) (start .args .g)))) all
-    ∙ finished (start .args .n) (start .args .f) (start .args .g) (start .args .out .now) (start .pre .3)
+    let s = c .before .before .before in
+    let all : c .before .loop .m ≡ 2 * s .args .n = omega (arith, c .before .loop .inv .0) in
+    finished (s .args .n) (s .args .f) (s .args .g) (s .args .out .now) (s .pre .3) (rw all at (c .before .loop .inv .1))
 
 pub fill-spec : {M : Type 1} → statement M
 fill-spec =
@@ -165,16 +192,17 @@ fill-spec =
     (tie.spec
     Inv-loop
     μ-loop
-    shl-order
-    parts-requires
-    parts-requires-2
-    parts-requires-3
-    parts-requires-4
+    slice-write-out
+    slice-write-out-2
     loop-holds
-    array-read-fill-row
-    array-read-fill-row-2
-    fill-row-requires
-    add-row
+    mul-loop
+    unit-symbol-requires
+    unit-symbol-requires-2
+    alternating-requires
+    cast-double
+    shl-double
+    double-requires
+    add-m
     loop-less
     loop-again
     same-length
