@@ -107,10 +107,3 @@ unit-middle n m {f} f-lt =
     rw (Nat.one-mul (2 ^ m), Ring.mul-comm 2 (le-refl 2) f 1, Ring.one-mul 2 (le-refl 2) f) at
     (Codes.mul-shift-right 2 (le-refl 2) m f 1) in
     rw (div-add-mod' (2 ^ m) (2 ^ n), shift) at (Middle.symbol-middle 2 (le-refl 2) n (2 ^ m / 2 ^ n) f-lt (mod-lt (2 ^ m) (pow-pos n)))
-
-pub symbol-parts : (n : ℕ) {f col : ℕ} (row : ℕ) → f < 2 ^ suc n → col < 2 ^ n
-    → symbol 2 n f row col ≡ bitXor (symbol 2 n f row 0) (symbol 2 n f 0 col)
-symbol-parts n {f} {col} row f-lt lt =
-    rw (Ring.add-zero-right 2 (le-refl 2) row, Ring.add-zero-left 2 (le-refl 2) col) at
-    (Linear.symbol-add 2 (le-refl 2) n f-lt row 0 (Blocks.pow-pos 2 (le-refl 2) n) lt)
-    ∙ add-xor (symbol 2 n f row 0) (symbol 2 n f 0 col)

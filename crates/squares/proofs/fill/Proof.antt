@@ -111,7 +111,7 @@ whole-size m = elim (decLt m 6) [
 ]
 
 abbrev Inv-loop : tie.InvT-loop
-Inv-loop n f g out₀ m₀ out m = (m ≤ 2 * n) × Filled n f g m out₀ out
+Inv-loop n f g out₀ m₀ out m = Filled n f g m out₀ out × (m ≤ 2 * n)
 
 abbrev μ-loop : tie.MeasureT-loop
 μ-loop n f g out₀ m₀ out m = 2 * n - m
@@ -129,7 +129,7 @@ slice-write-out-2 : tie.Need-slice-write-out-2 Inv-loop μ-loop
 slice-write-out-2 c = rw length-set (room (c .before))
 
 loop-holds : tie.Need-loop-holds Inv-loop μ-loop
-loop-holds c = let s = c .before in (omega arith, start (s .args .n) (s .pre .1) (s .pre .2) (s .args .out .now) (room s))
+loop-holds c = let s = c .before in (start (s .args .n) (s .pre .1) (s .pre .2) (s .args .out .now) (room s), omega arith)
 
 mul-loop : tie.Need-mul-loop Inv-loop μ-loop
 mul-loop c = record { fits = omega arith }
@@ -153,7 +153,7 @@ double-requires : tie.Need-double-requires Inv-loop μ-loop
 double-requires c κs =
     let s = c .before .before .before .before .before .before .before .before in
     let loop = c .before .before .before .before .before .before .loop in
-    let long = loop .inv .1 .long ∙ begun-length (s .args .out .now) in
+    let long = loop .inv .0 .long ∙ begun-length (s .args .out .now) in
     let m-few = few (c .before .before .before .before .before) in
     let small : 2 ^ loop .m ≤ 2 ^ 11 = pow-mono {i = loop .m} {j = 11} (omega arith) in
     let fits : 2 ^ suc (loop .m) ≤ 2 ^ (2 * s .args .n) = pow-mono {i = suc (loop .m)} {j = 2 * s .args .n} (omega arith) in
@@ -175,16 +175,16 @@ loop-again c =
     let made = c .before .before .before .before .before in
     let pattern =
     rw (made .before .before .unit-symbol .ensures, made .before .unit-symbol2 .ensures) at (made .alternating .ensures) in
-    (omega (arith, this .loop-test .taken), rw add-one (turn (s .args .n) (s .pre .1) (s .pre .2) (loop .inv .1) pattern doubled))
+    (rw add-one (turn (s .args .n) (s .pre .1) (s .pre .2) (loop .inv .0) pattern doubled), omega (arith, this .loop-test .taken))
 
 same-length : tie.Need-same-length Inv-loop μ-loop
-same-length c = c .before .loop .inv .1 .long ∙ begun-length (c .before .before .before .args .out .now)
+same-length c = c .before .loop .inv .0 .long ∙ begun-length (c .before .before .before .args .out .now)
 
 returns : tie.Need-returns Inv-loop μ-loop
 returns c =
     let s = c .before .before .before in
-    let all : c .before .loop .m ≡ 2 * s .args .n = omega (arith, c .before .loop .inv .0) in
-    finished (s .args .n) (s .args .f) (s .args .g) (s .args .out .now) (s .pre .3) (rw all at (c .before .loop .inv .1))
+    let all : c .before .loop .m ≡ 2 * s .args .n = omega (arith, c .before .loop .inv .1) in
+    finished (s .args .n) (s .args .f) (s .args .g) (s .args .out .now) (s .pre .3) (rw all at (c .before .loop .inv .0))
 
 pub fill-spec : {M : Type 1} → statement M
 fill-spec =
