@@ -3,7 +3,7 @@ use poly::Checked;
 use poly::Degree;
 use reply::Refusal;
 ghost use mathlib.Core.Path.{_≡_};
-ghost use Prim.Native.Nat.{_≤_};
+ghost use Prim.Native.Nat.{_+_, _≤_};
 ghost use lib.ListN.{length};
 ghost use lib.Seq.{sets};
 ghost use Rattle.poly.specs.Coprime.{gcd};
@@ -32,38 +32,24 @@ pub fn quotients(n: u32, f: u32, g: u32, out: &mut [u32]) -> Chained
     if out.len() < 32 {
         return Chained::Refused(Refusal::SliceLength);
     }
-    let end = divisions(f, g, out);
-    Chained::Quotients {
-        count: end.count,
-        divisor: end.divisor,
-    }
+    let mut divisor: u32 = 0;
+    let count = divisions(f, g, out, 0, &mut divisor);
+    Chained::Quotients { count, divisor }
 }
 
-struct End {
-    count: usize,
-    divisor: u32,
-}
-
-// The quotients of f and g, written to the front of out.
-fn divisions(f: u32, g: u32, out: &mut [u32]) -> End
-    requires { ⌜ length (chain 2 f g .quotients) ≤ length (now out) ⌝ }
-    ensures end { λ r. ⌜ (r .count ≡ length (chain 2 f g .quotients)) × (r .divisor ≡ chain 2 f g .divisor) ⌝ }
-    ensures written { λ r. ⌜ now (out .exit) ≡ sets (now (out .entry)) 0 (chain 2 f g .quotients) ⌝ }
+// The quotients of a and b, written from out[at] on, and the last divisor. It gives the position behind them.
+fn divisions(a: u32, b: u32, out: &mut [u32], at: usize, divisor: &mut u32) -> usize
+    requires { ⌜ at + length (chain 2 a b .quotients) ≤ length (now out) ⌝ }
+    ensures end { λ r. ⌜ (r ≡ at + length (chain 2 a b .quotients)) × (now (divisor .exit) ≡ chain 2 a b .divisor) ⌝ }
+    ensures written { λ r. ⌜ now (out .exit) ≡ sets (now (out .entry)) at (chain 2 a b .quotients) ⌝ }
 {
-    let mut last = f;
-    let mut next = g;
-    let mut count: usize = 0;
-    while next != 0 {
-        let d = poly::divide(last, next);
-        out[count] = d.quotient;
-        count += 1;
-        last = next;
-        next = d.remainder;
+    if b == 0 {
+        *divisor = a;
+        return at;
     }
-    End {
-        count,
-        divisor: last,
-    }
+    let d = poly::divide(a, b);
+    out[at] = d.quotient;
+    divisions(b, d.remainder, out, at + 1, divisor)
 }
 
 // The greatest common divisor.

@@ -1,4 +1,4 @@
--- What is shown of the list, of the words and of the two calls.
+-- What is shown of the list, of the words and of the calls.
 use mathlib.Core.Logic.{_↔_}
 use mathlib.Core.List.{List, [], _∷_, map}
 use mathlib.Core.Path.{_≡_}
