@@ -9,18 +9,14 @@ use lib.Dec.{T, T-not, eqb, eqb→eq}
 use Rattle.reply.specs.Reply.{Reply, served, refused, spent, _gives_, unless, after}
 use Rattle.poly.specs.Limits.{outside}
 use Rattle.walk.specs.declared.Walk.{Walk}
-use Rattle.walk.specs.Walks.{startReply, lookReply, afterDraw}
+use Rattle.walk.specs.Walks.{begun, startReply, lookReply, afterDraw}
 use Rattle.console.specs.Status.{status, value}
-use Rattle.console.specs.Records.{walkOf, Starts, Draws}
+use Rattle.console.specs.Records.{Starts, Draws}
 
 -- the reply to a call, from the answer that its contract speaks of and the variant that the answer is known to be
 pub told : {A : Type 0} (reply : A → Reply) {answer variant : A} {expected : Reply} → answer ≡ variant → reply answer ≡ expected
     → reply variant ≡ expected
 told reply known met = sym (ap reply known) ∙ met
-
--- values 0 and 1 of a reply, as a record, with what stood there before
-abbrev stored : Reply → Walk → Walk
-stored reply walk = walkOf (value 0 reply (walk .degree)) (value 1 reply (walk .position))
 
 module _ {answer reply : Reply} (e : answer ≡ reply) where
   pub returned : status answer ≡ status reply
@@ -32,19 +28,11 @@ module _ {answer reply : Reply} (e : answer ≡ reply) where
   pub pointed : (part : List ℕ) → after reply part [] ≡ after answer part []
   pointed part = ap (λ (r : Reply). after r part []) (sym e)
 
-  pub placed : (walk : Walk) → stored answer walk ≡ stored reply walk
-  placed walk = ap (λ (r : Reply). stored r walk) e
-
 abbrev Unserved : Reply → Type 0
 Unserved reply = status reply ≡ 0 → ⊥
 
 unserved : (s : ℕ) (reply : Reply) → s ≡ status reply → T (not (eqb s 0)) → Unserved reply
 unserved s reply e t z = T-not (eqb s 0) t (subst (λ (k : ℕ). T (eqb k 0)) (sym (e ∙ z)) tt)
-
-unserved-stored : (reply : Reply) → Unserved reply → (walk : Walk) → walk ≡ stored reply walk
-unserved-stored (served values) un walk = absurd (un refl)
-unserved-stored (refused number) un walk = refl
-unserved-stored spent un walk = refl
 
 unserved-after : (reply : Reply) → Unserved reply → (new old : Walk) → old ≡ after reply new old
 unserved-after (served values) un new old = absurd (un refl)
@@ -52,22 +40,22 @@ unserved-after (refused number) un new old = refl
 unserved-after spent un new old = refl
 
 -- a start that is served stores the same record whatever stood there
-begun-same : (out : Bool) (n : ℕ) → status (unless (out gives 1 ∷ []) (served (n ∷ 0 ∷ []))) ≡ 0 → (old new : Walk)
-    → stored (unless (out gives 1 ∷ []) (served (n ∷ 0 ∷ []))) old ≡ stored (unless (out gives 1 ∷ []) (served (n ∷ 0 ∷ []))) new
-begun-same true n zero old new = absurd (omega arith)
-begun-same false n zero old new = refl
+begun-same : (out : Bool) → status (unless (out gives 1 ∷ []) (served [])) ≡ 0 → (new old old′ : Walk)
+    → after (unless (out gives 1 ∷ []) (served [])) new old ≡ after (unless (out gives 1 ∷ []) (served [])) new old′
+begun-same true zero new old old′ = absurd (omega arith)
+begun-same false zero new old old′ = refl
 
-module _ {n s : ℕ} {begun : Walk} (walk : Walk) (e : Starts n (walkOf 0 0) begun s) where
-  pub start-served : T (eqb s 0) → Starts n walk begun s
+module _ {n s : ℕ} {walk′ : Walk} (walk : Walk) (e : Starts n (begun 0) walk′ s) where
+  pub start-served : T (eqb s 0) → Starts n walk walk′ s
   start-served t = record {
     returned = e .returned;
-    begun = e .begun ∙ begun-same (outside 1 31 n) n (sym (e .returned) ∙ eqb→eq s 0 t) (walkOf 0 0) walk;
+    stored = e .stored ∙ begun-same (outside 1 31 n) (sym (e .returned) ∙ eqb→eq s 0 t) (begun n) (begun 0) walk;
   }
 
   pub start-refused : T (not (eqb s 0)) → Starts n walk walk s
   start-refused t = record {
     returned = e .returned;
-    begun = unserved-stored (startReply n) (unserved s (startReply n) (e .returned) t) walk;
+    stored = unserved-after (startReply n) (unserved s (startReply n) (e .returned) t) (begun n) walk;
   }
 
 pub draw-unserved : {walk walk′ : Walk} {f g f′ g′ s : ℕ} → Draws walk walk′ f g f′ g′ s → T (not (eqb s 0)) → Draws walk walk f g f′ g′ s

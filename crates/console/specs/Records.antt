@@ -8,12 +8,8 @@ use Rattle.trial.specs.Parser.{Parsed}
 use Rattle.trial.specs.Trial.{Trial}
 use Rattle.trial.specs.Replies.{read, readReply, nameRead, levelsAfter, writeReply, fileAfter}
 use Rattle.walk.specs.declared.Walk.{Walk}
-use Rattle.walk.specs.Walks.{startReply, lookReply, afterDraw}
+use Rattle.walk.specs.Walks.{begun, startReply, lookReply, afterDraw}
 use Rattle.console.specs.Status.{status, value}
-
--- The walk record with these two fields.
-abbrev pub walkOf : ℕ → ℕ → Walk
-walkOf degree position = record { degree = degree; position = position }
 
 -- What reading a file gives, with these two slices lent for the levels.
 abbrev pub readInto : List ℕ → List ℕ → List ℕ → Parsed Trial
@@ -26,7 +22,7 @@ trialReply file powers forces = readReply (length file) (readInto file powers fo
 -- A start: what it returns, and the record after it, with what stood there before.
 pub record Starts (n : ℕ) (walk walk′ : Walk) (r : ℕ) : Type 0 where
   pub returned : r ≡ status (startReply n)
-  pub begun : walk′ ≡ walkOf (value 0 (startReply n) (walk .degree)) (value 1 (startReply n) (walk .position))
+  pub stored : walk′ ≡ after (startReply n) (begun n) walk
 
 -- A look: what it returns, and what stands behind the two pointers after it, with what stood there before.
 pub record Looks (walk : Walk) (f g f′ g′ r : ℕ) : Type 0 where

@@ -12,7 +12,7 @@ use Rattle.pairs.specs.Pairs.{turn, build, pairs}
 use Rattle.pairs.specs.Replies.{pairAtReply, positionReply}
 use Rattle.squares.specs.Symbols.{outputCell, symbol}
 use Rattle.squares.specs.Replies.{siteReply}
-use Rattle.walk.specs.Walks.{recordCause, lookReply, afterDraw}
+use Rattle.walk.specs.Walks.{badRecord, lookReply, afterDraw}
 use Rattle.trial.specs.Number.{encodeNumber, parseNumber}
 use Rattle.trial.specs.Trial.{encodeHead, encodeBody, encode, parseCodes, parseHead, parseText, parseName, parseEnd, parseBody, parse}
 use Rattle.trial.specs.Replies.{contentCauses, read, writeReply}
@@ -21,7 +21,7 @@ use Rattle.edges.specs.Table.{EdgesClaim}
 pub edges : EdgesClaim
 unfolding add mul scale degree inverse bringDown divide gcd outside offDegree codeCauses
     chain wordsFrom compositions sequences block turn build pairs pairAtReply
-    positionReply outputCell symbol siteReply recordCause lookReply
+    positionReply outputCell symbol siteReply badRecord lookReply
     afterDraw encodeNumber parseNumber encodeHead encodeBody encode parseCodes parseHead
     parseText parseName parseEnd parseBody parse contentCauses read writeReply
 edges = refl

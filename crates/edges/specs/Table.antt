@@ -9,8 +9,8 @@ use Rattle.poly.specs.Replies.{orderReply, lengthReply}
 use Rattle.euclid.specs.Replies.{chainReply, chainContent}
 use Rattle.pairs.specs.Replies.{pairAtReply, positionReply}
 use Rattle.squares.specs.Replies.{siteReply}
-use Rattle.walk.specs.Walks.{startReply, lookReply, afterDraw}
-use Rattle.walk.specs.Calls.{begun}
+use Rattle.walk.specs.declared.Walk.{Walk}
+use Rattle.walk.specs.Walks.{startReply, started, lookReply, afterDraw}
 use Rattle.trial.specs.Trial.{Trial}
 use Rattle.trial.specs.Replies.{read, readReply, levelsAfter, writeReply, fileAfter}
 use Rattle.trial.specs.Answers.{trialFrom}
@@ -81,11 +81,15 @@ squares =
     ++ sites 3 0 (1 ∷ 0 ∷ 2 ∷ 3 ∷ []) (3 ∷ 2 ∷ 1 ∷ 0 ∷ [])
 
 -- Degree 1: the first draw says spent, and leaves the record.
+abbrev pub fields : Walk → List ℕ
+fields walk = walk .degree ∷ walk .position ∷ []
+
 abbrev pub walks : List Case
 walks =
-    startReply 1 is served (1 ∷ 0 ∷ [])
-    ∷ lookReply (begun 1) is spent
-    ∷ served (afterDraw (begun 1) .degree ∷ afterDraw (begun 1) .position ∷ []) is served (1 ∷ 0 ∷ [])
+    startReply 1 is served []
+    ∷ served (fields (started 1)) is served (1 ∷ 0 ∷ [])
+    ∷ lookReply (started 1) is spent
+    ∷ served (fields (afterDraw (started 1))) is served (1 ∷ 0 ∷ [])
     ∷ []
 
 -- Degrees 0 and 32, at each call that answers them with 1.

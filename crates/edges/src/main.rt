@@ -9,8 +9,8 @@ use reply::Refusal;
 use squares::Symbols;
 use trial::ReadTrial;
 use trial::Written;
+use walk::Change;
 use walk::Next;
-use walk::Started;
 use walk::Walk;
 
 fn text(bytes: &[u8]) {
@@ -84,9 +84,12 @@ fn start(n: u32) {
     text(b"start");
     number(n as u64);
     text(b":");
-    match walk::start(n) {
-        Started::Walk(walk) => record(walk),
-        Started::Refused(refusal) => refused(refusal),
+    let started = walk::start(n);
+    let answer = started.answer;
+    let walk = started.walk;
+    match answer {
+        Change::Done => record(walk),
+        Change::Refused(refusal) => refused(refusal),
     }
     text(b"\n");
 }
@@ -104,11 +107,9 @@ fn next(answer: Next) {
 }
 
 // A look, a draw, and the record after them.
-fn walk(degree: u32) {
-    let begun = Walk {
-        degree,
-        position: 0,
-    };
+fn walk(n: u32) {
+    let started = walk::start(n);
+    let begun = started.walk;
     let drawn = begun.drawn();
     text(b"look:");
     next(begun.look());

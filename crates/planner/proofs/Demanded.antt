@@ -1,7 +1,7 @@
 -- Demand 3 holds: the walk's claim, the list's and the squares', put together.
 use mathlib.Core.Bool.{false}
 use mathlib.Core.List.{[], _∷_}
-use mathlib.Core.Path.{_≡_, sym, _∙_}
+use mathlib.Core.Path.{_≡_, refl, sym, _∙_}
 use Prim.Native.Nat.{ℕ, _%_, _^_, _≤_, _<_}
 use native.Mathlib.Nat.{le-refl}
 use native.Mathlib.Omega.{arith}
@@ -20,7 +20,7 @@ use Rattle.pairs.proofs.Undo.{pair-answers, entry-found}
 use Rattle.squares.specs.Symbols.{symbol}
 use Rattle.squares.specs.Replies.{siteCauses, siteReply}
 use Rattle.squares.proofs.Claims.{squares-orthogonal}
-use Rattle.walk.proofs.Walking.{walked}
+use Rattle.walk.proofs.Walking.{walked-from-start}
 use Rattle.planner.specs.Demand.{Polynomial, DemandThree}
 
 odd : (code : ℕ) → code % 2 ≡ 1 → eqb (code % 2) 0 ≡ false
@@ -54,8 +54,8 @@ demand-three n low high =
     let list = list-complete n low in
     let long : length (pairs n) ≡ listLength n = list .long in
     record {
-      begins = rw (inside 1 31 low high);
-      walk = walked n low high;
+      begins = rw (inside 1 31 low high) (refl, refl);
+      walk = walked-from-start n low high;
       long = long;
       pair = pair-answers n low high;
       found = entry-found n low high;

@@ -1,6 +1,7 @@
--- Demand 3, whole. It is about what the calls answer: `startReply` is the reply that the contract of start gives, `lookReply` and
--- `afterDraw`, over which `Walked` runs, are those of look and draw, `pairAtReply`, `positionReply` and `siteReply` those of the pair call,
--- the position call and the site call. The fields that name them tie the list of pairs and the squares to these calls.
+-- Demand 3, whole. It is about what the calls answer: `startReply` and `started` are the reply and the record that the contract of start
+-- gives, `lookReply` and `afterDraw`, over which `FromStart` runs, are those of look and draw, `pairAtReply`, `positionReply` and
+-- `siteReply` those of the pair call, the position call and the site call. The fields that name them tie the list of pairs and the squares
+-- to these calls.
 use mathlib.Core.Logic.{_↔_}
 use mathlib.Core.List.{List, [], _∷_}
 use mathlib.Core.Path.{_≡_}
@@ -16,8 +17,8 @@ use Rattle.pairs.specs.Replies.{pairReply, pairAtReply, positionReply}
 use Rattle.squares.specs.Squares.{ExactlyOne, Orthogonal}
 use Rattle.squares.specs.Symbols.{symbol}
 use Rattle.squares.specs.Replies.{siteReply}
-use Rattle.walk.specs.Walks.{startReply}
-use Rattle.walk.specs.Calls.{Call, begun, Walked}
+use Rattle.walk.specs.Walks.{begun, startReply, started}
+use Rattle.walk.specs.Calls.{Call, FromStart}
 
 -- A code of degree n with constant term one.
 pub record Polynomial (n code : ℕ) : Type 0 where
@@ -26,11 +27,11 @@ pub record Polynomial (n code : ℕ) : Type 0 where
 
 pub record Demand (n : ℕ) : Type 0 where
   -- Starting gives the record from which the calls go on.
-  pub begins : startReply n ≡ served (begun n .degree ∷ begun n .position ∷ [])
+  pub begins : (startReply n ≡ served []) × (started n ≡ begun n)
   -- For every list of draws and looks on it: a call with j draws before it that were not turned down gives the pair at position j if j is
   -- below L, and says spent exactly when j is L or more; none is turned down; and afterwards the record has
   -- degree n and, as its position, the smaller of L and the number of draws.
-  pub walk : (calls : List Call) → Walked n calls
+  pub walk : (calls : List Call) → FromStart n calls
   -- L is the length of the list of pairs.
   pub long : length (pairs n) ≡ listLength n
   -- The pair at a position is what the pair call gives, and the position call finds it there.

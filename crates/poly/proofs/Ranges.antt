@@ -50,8 +50,8 @@ off-degree n a h = go (decLt a (2 ^ n)) (decLt a (2 ^ suc n))
     go (no l) (yes u) = absurd (h (record { low = omega arith; high = u }))
     go (no l) (no u) = rw (le-leb (2 ^ suc n) a (omega arith)) (or-true (ltb a (2 ^ n)))
 
--- ---- what is known of two codes that passed
-neither : (a b : Bool) → (a || b) ≡ false → (a ≡ false) × (b ≡ false)
+-- ---- what is known of two tests, and of two codes, that passed
+pub neither : (a b : Bool) → (a || b) ≡ false → (a ≡ false) × (b ≡ false)
 neither true b e = absurd (true≢false e)
 neither false b e = (refl, e)
 

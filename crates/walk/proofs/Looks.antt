@@ -14,7 +14,7 @@ use Rattle.poly.proofs.Ranges.{within, list-length-lt}
 use Rattle.pairs.specs.Replies.{pairReply, pairAtReply}
 use Rattle.pairs.specs.Pairs.{pairs, start}
 use Rattle.walk.specs.declared.Walk.{Walk}
-use Rattle.walk.specs.Walks.{recordCause, lookReply, afterDraw}
+use Rattle.walk.specs.Walks.{badRecord, lookReply, afterDraw}
 
 module _ (walk : Walk) where
   abbrev n : ℕ
@@ -24,21 +24,21 @@ module _ (walk : Walk) where
   position = walk .position
 
   pub bad-degree : outside 1 31 n ≡ true → refused 3 ≡ lookReply walk
-  unfolding lookReply recordCause
+  unfolding lookReply badRecord
   bad-degree e = rw e
 
   module _ (degree : outside 1 31 n ≡ false) where
     pub bad-position : listLength n < position → refused 3 ≡ lookReply walk
-    unfolding lookReply recordCause
+    unfolding lookReply badRecord
     bad-position l = rw (degree, lt-ltb (listLength n) position l)
 
     pub at-end : listLength n ≡ position → spent ≡ lookReply walk
-    unfolding lookReply recordCause
+    unfolding lookReply badRecord
     at-end e = rw (degree, ← e, le-ltb (listLength n) (listLength n) (le-refl (listLength n)))
 
     module _ (l : position < listLength n) where
       pub on-list : lookReply walk ≡ pairReply (getD (pairs n) position start)
-      unfolding lookReply recordCause
+      unfolding lookReply badRecord
       on-list = rw (degree, le-ltb (listLength n) position (omega arith), lt-ltb position (listLength n) l)
 
       pub pair-there : pairAtReply n position ≡ pairReply (getD (pairs n) position start)

@@ -1,29 +1,39 @@
--- Demand 3's claim about a list of calls, by induction over the list: after c draws that were not turned down, the record has the degree n
--- and the smaller of c and the list's length as its position, and answers with entry c.
+-- The claims about a list of calls, by induction over the list: a sound record at entry c, or at the list's end where c is behind that,
+-- answers with entry c, and a draw takes it to entry c + 1. Demand 3's words are the case c = 0.
+use mathlib.Core.Bool.{false}
 use mathlib.Core.List.{List, [], _∷_}
 use mathlib.Core.Path.{_≡_, refl, sym, ap, subst, _∙_}
 use Prim.Native.Nat.{ℕ, zero, suc, _+_, _≤_, _<_, min}
-use native.Mathlib.Nat.{add-zero, zero-add, add-assoc, min-zero, min-eq-right, min-le-left, le-refl, le-of-lt}
+use native.Mathlib.Nat.{add-zero, zero-add, add-assoc, min-eq-right, min-le-left, le-refl, le-of-lt}
 use native.Mathlib.Decide.{decLt}
 use native.Mathlib.Omega.{arith}
-use borrow.Author.Tests.{lt-ltb, le-ltb}
+use borrow.Author.Tests.{lt-ltb, le-ltb, ltb-false}
+use lib.Dec.{ltb}
 use lib.ListN.{length, getD, take}
 use Rattle.reply.specs.Reply.{refused, after}
-use Rattle.poly.specs.Limits.{listLength}
-use Rattle.poly.proofs.Ranges.{inside}
+use Rattle.poly.specs.Limits.{outside, listLength}
+use Rattle.poly.proofs.Ranges.{inside, neither}
 use Rattle.walk.specs.declared.Walk.{Walk}
-use Rattle.walk.specs.Walks.{recordCause, entryReply, lookReply, afterDraw}
-use Rattle.walk.specs.Calls.{Call, look, draw, Answered, next, answers, last, counts}
-use Rattle.walk.specs.Calls.{draws, NotRefused, begun, answer, before, WalkClaim}
+use Rattle.walk.specs.Walks.{begun, badRecord, entryReply, lookReply, afterDraw}
+use Rattle.walk.specs.Calls.{Call, look, draw, Answered, next, answers, last, counts, draws, answer, before}
+use Rattle.walk.specs.Calls.{Sound, WalkClaim, NotRefused, StartClaim}
 
--- the record after c draws
+-- the record at entry c, or at the list's end
 abbrev along : ℕ → ℕ → Walk
 along n c = record { degree = n; position = min (listLength n) c }
 
 abbrev none : Answered
 none = record { call = look; reply = refused 0 }
 
-module _ (n : ℕ) (low : 1 ≤ n) (high : n ≤ 31) where
+-- an entry is no refusal, and counts as a draw
+not-refused : (n c : ℕ) → NotRefused (entryReply n c) × (counts draw (entryReply n c) ≡ 1)
+not-refused n c = go (decLt c (listLength n))
+  where
+    go : Dec (c < listLength n) → NotRefused (entryReply n c) × (counts draw (entryReply n c) ≡ 1)
+    go (yes l) = rw (lt-ltb c (listLength n) l) (tt, refl)
+    go (no l) = rw (le-ltb c (listLength n) (omega arith)) (tt, refl)
+
+module _ (n : ℕ) (good : outside 1 31 n ≡ false) where
   -- at the list's end and behind it, the entry is spent
   along-entry : (c : ℕ) → entryReply n (min (listLength n) c) ≡ entryReply n c
   along-entry c = go (decLt c (listLength n))
@@ -35,9 +45,8 @@ module _ (n : ℕ) (low : 1 ≤ n) (high : n ≤ 31) where
           ap (entryReply n) e ∙ rw (le-ltb (listLength n) (listLength n) (le-refl (listLength n)), le-ltb c (listLength n) (omega arith))
 
   along-look : (c : ℕ) → lookReply (along n c) ≡ entryReply n c
-  unfolding lookReply recordCause
-  along-look c =
-      rw (inside 1 31 low high, le-ltb (listLength n) (min (listLength n) c) (min-le-left (listLength n) c)) (along-entry c)
+  unfolding lookReply badRecord
+  along-look c = rw (good, le-ltb (listLength n) (min (listLength n) c) (min-le-left (listLength n) c)) (along-entry c)
 
   along-draw : (c : ℕ) → afterDraw (along n c) ≡ along n (c + 1)
   unfolding afterDraw
@@ -52,14 +61,6 @@ module _ (n : ℕ) (low : 1 ≤ n) (high : n ≤ 31) where
           let e : min (listLength n) c ≡ min (listLength n) (c + 1) = omega arith in
           rw (le-ltb c (listLength n) (omega arith)) (ap (λ (v : ℕ). record { degree = n; position = v }) e)
 
-  -- an entry is no refusal, and counts as a draw
-  not-refused : (c : ℕ) → NotRefused (entryReply n c) × (counts draw (entryReply n c) ≡ 1)
-  not-refused c = go (decLt c (listLength n))
-    where
-      go : Dec (c < listLength n) → NotRefused (entryReply n c) × (counts draw (entryReply n c) ≡ 1)
-      go (yes l) = rw (lt-ltb c (listLength n) l) (tt, refl)
-      go (no l) = rw (le-ltb c (listLength n) (omega arith)) (tt, refl)
-
   -- one call: the record after it has counted it
   step : Call → ℕ
   step look = 0
@@ -73,9 +74,9 @@ module _ (n : ℕ) (low : 1 ≤ n) (high : n ≤ 31) where
   along-counts : (call : Call) (c : ℕ) → counts call (entryReply n c) ≡ step call
   unfolding step
   along-counts look c = refl
-  along-counts draw c = not-refused c .1
+  along-counts draw c = not-refused n c .1
 
-  -- ---- the list of calls, from the record after c draws
+  -- ---- the list of calls, from the record at entry c
   each-from : (calls : List Call) (c i : ℕ) → i < length calls
       → getD (answers (along n c) calls) i none .reply ≡ entryReply n (c + draws (take i (answers (along n c) calls)))
   each-from [] c i h = absurd (omega arith)
@@ -89,24 +90,53 @@ module _ (n : ℕ) (low : 1 ≤ n) (high : n ≤ 31) where
   last-from (call ∷ calls) c =
       rw (along-next call c, along-look c, along-counts call c, ← add-assoc c (step call) _) (last-from calls (c + step call))
 
-  from-start : along n 0 ≡ begun n
-  from-start = ap (λ (v : ℕ). record { degree = n; position = v }) (min-zero (listLength n))
+-- a sound record is at an entry, or at the list's end
+module _ (walk : Walk) (sound : Sound walk) where
+  abbrev n : ℕ
+  n = walk .degree
 
-  each-begun : (calls : List Call) (i : ℕ) → i < length calls → answer n calls i ≡ entryReply n (before n calls i)
-  each-begun calls i h =
-      subst (λ (w : Walk). getD (answers w calls) i none .reply ≡ entryReply n (draws (take i (answers w calls)))) from-start
-      (rw zero-add at (each-from calls 0 i h))
+  parts : (outside 1 31 n ≡ false) × (walk .position ≤ listLength n)
+  unfolding badRecord
+  parts =
+      let (good, at) = neither (outside 1 31 n) (ltb (listLength n) (walk .position)) sound in
+      (good, ltb-false (listLength n) (walk .position) at)
 
-  last-begun : (calls : List Call) → last (begun n) calls ≡ along n (draws (answers (begun n) calls))
-  last-begun calls =
-      subst (λ (w : Walk). last w calls ≡ along n (draws (answers w calls))) from-start (rw zero-add at (last-from calls 0))
+  here : along n (walk .position) ≡ walk
+  here = ap (λ (v : ℕ). record { degree = n; position = v }) (min-eq-right (parts .1))
+
+  each-call : (calls : List Call) (i : ℕ) → i < length calls
+      → answer walk calls i ≡ entryReply n (walk .position + before walk calls i)
+  each-call calls i h =
+      subst (λ (w : Walk). answer w calls i ≡ entryReply n (walk .position + before w calls i)) here
+      (each-from n (parts .0) calls (walk .position) i h)
+
+  last-call : (calls : List Call) → last walk calls ≡ along n (walk .position + draws (answers walk calls))
+  last-call calls =
+      subst (λ (w : Walk). last w calls ≡ along n (walk .position + draws (answers w calls))) here
+      (last-from n (parts .0) calls (walk .position))
 
 pub walked : WalkClaim
-walked n low high calls =
+walked walk sound calls =
     record {
-      none-refused = λ i h. rw (each-begun n low high calls i h) (not-refused n low high (before n calls i) .0);
-      pair = λ i h l. each-begun n low high calls i h ∙ rw (lt-ltb (before n calls i) (listLength n) l);
-      spent-at-end = λ i h l. each-begun n low high calls i h ∙ rw (le-ltb (before n calls i) (listLength n) l);
-      degree = ap (λ (w : Walk). w .degree) (last-begun n low high calls);
-      position = ap (λ (w : Walk). w .position) (last-begun n low high calls);
+      answered = each-call walk sound calls;
+      degree = ap (λ (w : Walk). w .degree) (last-call walk sound calls);
+      position = ap (λ (w : Walk). w .position) (last-call walk sound calls);
+    }
+
+-- the record that starting gives is sound
+begun-sound : (n : ℕ) → 1 ≤ n → n ≤ 31 → Sound (begun n)
+unfolding badRecord
+begun-sound n low high = rw (inside 1 31 low high, le-ltb (listLength n) 0 (omega arith))
+
+pub walked-from-start : StartClaim
+walked-from-start n low high calls =
+    let w = walked (begun n) (begun-sound n low high) calls in
+    let each : (i : ℕ) → i < length calls → answer (begun n) calls i ≡ entryReply n (before (begun n) calls i)
+    = λ i h. rw zero-add at (w .answered i h) in
+    record {
+      none-refused = λ i h. rw (each i h) (not-refused n (before (begun n) calls i) .0);
+      pair = λ i h l. each i h ∙ rw (lt-ltb (before (begun n) calls i) (listLength n) l);
+      spent-at-end = λ i h l. each i h ∙ rw (le-ltb (before (begun n) calls i) (listLength n) l);
+      degree = w .degree;
+      position = rw zero-add at (w .position);
     }

@@ -4,7 +4,7 @@ use poly::Count;
 use poly::Degree;
 use reply::Refusal;
 ghost use mathlib.Core.Path.{_≡_};
-ghost use Rattle.walk.specs.Walks.{startedReply, startReply, nextReply, lookReply, afterDraw};
+ghost use Rattle.walk.specs.Walks.{begun, changeReply, startReply, started, nextReply, lookReply, afterDraw};
 
 // Document 01's walk record.
 #[repr(C)]
@@ -13,10 +13,16 @@ pub struct Walk {
     pub position: u64,
 }
 
-// A new walk, or why there is none.
-pub enum Started {
-    Walk(Walk),
+// What a call that gives no values answers.
+pub enum Change {
+    Done,
     Refused(Refusal),
+}
+
+// What a start answers, and the new record. Where there is none, a record that no call serves stands in its place.
+pub struct Started {
+    pub answer: Change,
+    pub walk: Walk,
 }
 
 // What a look or a draw answers.
@@ -33,15 +39,28 @@ pub struct Drawn {
 }
 
 pub fn start(n: u32) -> Started
-    ensures { λ r. ⌜ startedReply r ≡ startReply n ⌝ }
+    ensures { λ r. ⌜ (changeReply (r .answer) ≡ startReply n) × (r .walk ≡ started n) ⌝ }
 {
     if (Degree { n }).outside() {
-        return Started::Refused(Refusal::DegreeRange);
+        return Started {
+            answer: Change::Refused(Refusal::DegreeRange),
+            walk: begun(0),
+        };
     }
-    Started::Walk(Walk {
+    Started {
+        answer: Change::Done,
+        walk: begun(n),
+    }
+}
+
+// A record at the start of a list.
+fn begun(n: u32) -> Walk
+    ensures { λ r. ⌜ r ≡ begun n ⌝ }
+{
+    Walk {
         degree: n,
         position: 0,
-    })
+    }
 }
 
 impl Walk {

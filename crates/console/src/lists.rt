@@ -1,0 +1,78 @@
+// The list of pairs, for C.
+use pairs::Filled;
+use pairs::Found;
+use pairs::Place;
+use poly::Count;
+use poly::Degree;
+ghost use mathlib.Core.Path.{_≡_};
+ghost use lib.ListN.{length};
+ghost use Rattle.console.specs.Status.{status, value};
+ghost use Rattle.poly.specs.Replies.{lengthReply};
+ghost use Rattle.pairs.specs.Replies.{pairAtReply, fromReply, fromContent, positionReply};
+
+// The length of the list of degree n.
+#[no_mangle]
+pub extern "C" fn dw_length(n: u32, pairs: &mut u64) -> u32
+    ensures { λ r. ⌜ r ≡ status (lengthReply n) ⌝ }
+    ensures { λ _. ⌜ now (pairs .exit) ≡ value 0 (lengthReply n) (now (pairs .entry)) ⌝ }
+{
+    let answer = (Degree { n }).list_length();
+    match answer {
+        Count::Refused(refusal) => refusal.number(),
+        Count::Is(number) => {
+            *pairs = number;
+            0
+        }
+    }
+}
+
+// The pair at a position of the list of degree n.
+#[no_mangle]
+pub extern "C" fn dw_pair_at(n: u32, position: u64, f: &mut u32, g: &mut u32) -> u32
+    ensures { λ r. ⌜ r ≡ status (pairAtReply n position) ⌝ }
+    ensures { λ _. ⌜ now (f .exit) ≡ value 0 (pairAtReply n position) (now (f .entry)) ⌝ }
+    ensures { λ _. ⌜ now (g .exit) ≡ value 1 (pairAtReply n position) (now (g .entry)) ⌝ }
+{
+    let answer = pairs::pair_at(n, position);
+    match answer {
+        Found::Refused(refusal) => refusal.number(),
+        Found::Codes(first, second) => {
+            *f = first;
+            *g = second;
+            0
+        }
+    }
+}
+
+// The pairs from a position of the list of degree n on, f and g in turn, as many as fit into the slice; with their count.
+#[no_mangle]
+pub extern "C" fn dw_pairs_from(n: u32, position: u64, out: &mut [u32], count: &mut usize) -> u32
+    ensures { λ r. ⌜ r ≡ status (fromReply n position (length (now (out .entry)))) ⌝ }
+    ensures { λ _. ⌜ now (out .exit) ≡ fromContent n position (now (out .entry)) ⌝ }
+    ensures { λ _. ⌜ now (count .exit) ≡ value 0 (fromReply n position (length (now (out .entry)))) (now (count .entry)) ⌝ }
+{
+    let answer = pairs::pairs_from(n, position, out);
+    match answer {
+        Filled::Refused(refusal) => refusal.number(),
+        Filled::Pairs(written) => {
+            *count = written;
+            0
+        }
+    }
+}
+
+// The position of a pair in the list of degree n.
+#[no_mangle]
+pub extern "C" fn dw_position_of(n: u32, f: u32, g: u32, position: &mut u64) -> u32
+    ensures { λ r. ⌜ r ≡ status (positionReply n f g) ⌝ }
+    ensures { λ _. ⌜ now (position .exit) ≡ value 0 (positionReply n f g) (now (position .entry)) ⌝ }
+{
+    let answer = pairs::position_of(n, f, g);
+    match answer {
+        Place::Refused(refusal) => refusal.number(),
+        Place::At(place) => {
+            *position = place;
+            0
+        }
+    }
+}

@@ -1,0 +1,105 @@
+// Walks, for C. An exported function that takes a lent record is proved by hand, over a core that takes and gives the record by value.
+use walk::Change;
+use walk::Next;
+use walk::Walk;
+ghost use mathlib.Core.Path.{_≡_};
+ghost use Rattle.walk.specs.Walks.{begun, nextReply};
+ghost use Rattle.console.specs.Status.{status, value};
+ghost use Rattle.console.specs.Records.{Starts, Looks, Draws};
+
+// What look and draw return at the end of a list.
+const SPENT: u32 = 255;
+
+// What a start or a draw returns, and the record to store where that is 0.
+struct Outcome {
+    status: u32,
+    walk: Walk,
+}
+
+// Where a start is refused, its record is served by no call, and is not stored.
+fn started(n: u32) -> Outcome
+    ensures { λ r. ⌜ Starts n (begun 0) (r .walk) (r .status) ⌝ }
+{
+    let start = walk::start(n);
+    let answer = start.answer;
+    let walk = start.walk;
+    match answer {
+        Change::Refused(refusal) => Outcome {
+            status: refusal.number(),
+            walk,
+        },
+        Change::Done => Outcome { status: 0, walk },
+    }
+}
+
+// What a look or a draw with this answer returns; a pair goes behind the two pointers.
+fn passed_on(answer: Next, f: &mut u32, g: &mut u32) -> u32
+    ensures { λ r. ⌜ r ≡ status (nextReply answer) ⌝ }
+    ensures { λ _. ⌜ now (f .exit) ≡ value 0 (nextReply answer) (now (f .entry)) ⌝ }
+    ensures { λ _. ⌜ now (g .exit) ≡ value 1 (nextReply answer) (now (g .entry)) ⌝ }
+{
+    match answer {
+        Next::Refused(refusal) => refusal.number(),
+        Next::Spent => SPENT,
+        Next::Codes(first, second) => {
+            *f = first;
+            *g = second;
+            0
+        }
+    }
+}
+
+fn looked(walk: Walk, f: &mut u32, g: &mut u32) -> u32
+    ensures { λ r. ⌜ Looks walk (now (f .entry)) (now (g .entry)) (now (f .exit)) (now (g .exit)) r ⌝ }
+{
+    let answer = walk.look();
+    passed_on(answer, f, g)
+}
+
+fn drawn(walk: Walk, f: &mut u32, g: &mut u32) -> Outcome
+    ensures { λ r. ⌜ Draws walk (r .walk) (now (f .entry)) (now (g .entry)) (now (f .exit)) (now (g .exit)) (r .status) ⌝ }
+{
+    let next = walk.drawn();
+    let answer = next.answer;
+    let after = next.walk;
+    let status = passed_on(answer, f, g);
+    Outcome {
+        status,
+        walk: after,
+    }
+}
+
+// Starts a walk of degree n in a record that the console lends.
+#[no_mangle]
+pub extern "C" fn dw_start(n: u32, walk: &mut Walk) -> u32
+    ensures { λ r. ⌜ Starts n (now (walk .entry)) (now (walk .exit)) r ⌝ }
+{
+    let outcome = started(n);
+    if outcome.status == 0 {
+        *walk = outcome.walk;
+    }
+    outcome.status
+}
+
+// The pair at the position of a walk that the console lends.
+#[no_mangle]
+pub extern "C" fn dw_look(walk: &Walk, f: &mut u32, g: &mut u32) -> u32
+    ensures { λ r. ⌜ Looks (now (walk .entry)) (now (f .entry)) (now (g .entry)) (now (f .exit)) (now (g .exit)) r ⌝ }
+{
+    let here = *walk;
+    looked(here, f, g)
+}
+
+// A draw from a walk that the console lends.
+#[no_mangle]
+pub extern "C" fn dw_draw(walk: &mut Walk, f: &mut u32, g: &mut u32) -> u32
+    ensures { λ r.
+        ⌜ Draws (now (walk .entry)) (now (walk .exit)) (now (f .entry)) (now (g .entry)) (now (f .exit)) (now (g .exit)) r ⌝ }
+{
+    let here = *walk;
+    let outcome = drawn(here, f, g);
+    if outcome.status == 0 {
+        *walk = outcome.walk;
+    }
+    outcome.status
+}
