@@ -23,12 +23,17 @@ CHECK(DW_REFUSED_LEVEL_RANGE == 13 && DW_REFUSED_LEVEL_ORDER == 14 && DW_REFUSED
 CHECK(DW_REFUSED_TRAILING_BYTES == 17);
 CHECK(DW_CHAIN_ROOM == 32 && DW_LEVELS_ROOM == 64 && DW_SHEET_ROOM == 8192 && DW_FILE_ROOM == 429 && DW_NAME_ROOM == 40);
 
-enum { SEED = 20261115, GUARD = 64, LARGEST = 1 << 14, SLOTS = 8 };
+enum { SEED = 20261115, GUARD = 64, LARGEST = 1 << 14, SLOTS = 16 };
 
 static uint64_t state = SEED;
 static uint64_t calls, served;
-/* Bit k: number k was returned; bit 31: spent. */
-static uint32_t seen;
+/* Bit k: number k was returned; bit 63: spent. */
+static uint64_t seen;
+
+static uint64_t bit(uint32_t k)
+{
+    return UINT64_C(1) << k;
+}
 
 static uint32_t draw(uint32_t below)
 {
@@ -60,7 +65,7 @@ static void count(uint32_t got, uint32_t want, const char *what)
 {
     calls++;
     expect(got == want, what);
-    seen |= 1u << (got == DW_SPENT ? 31 : got);
+    seen |= bit(got == DW_SPENT ? 63 : got);
     served += got == DW_SERVED;
 }
 
@@ -457,14 +462,14 @@ static void printed_entries(void)
 }
 
 /* Runs one part, in which each of the numbers, and spent where it is said, must be met. */
-static void part(const char *name, void (*once)(void), int times, uint32_t least, uint32_t most, uint32_t others)
+static void part(const char *name, void (*once)(void), int times, uint32_t least, uint32_t most, uint64_t others)
 {
-    uint32_t numbers = ((2u << most) - (1u << least)) | others | 1;
+    uint64_t numbers = (bit(most + 1) - bit(least)) | others | bit(0);
     calls = served = seen = 0;
     for (int i = 0; i < times; i++)
         once();
     if (seen != numbers) {
-        printf("%s: met %08" PRIx32 ", not %08" PRIx32 "\n", name, seen, numbers);
+        printf("%s: met %016" PRIx64 ", not %016" PRIx64 "\n", name, seen, numbers);
         exit(1);
     }
     printf("%-16s %9" PRIu64 " calls, %9" PRIu64 " served, each of its numbers met\n", name, calls, served);
@@ -473,7 +478,7 @@ static void part(const char *name, void (*once)(void), int times, uint32_t least
 int main(int argc, char **argv)
 {
     int scale = argc > 1 ? atoi(argv[1]) : 1000;
-    uint32_t four = 1u << 4, twelve = 1u << 12, spent = 1u << 31;
+    uint64_t one = bit(1), four = bit(4), twelve = bit(12), codes = bit(6) | bit(7) | bit(8), spent = bit(63);
     printf("seed %d\n", SEED);
     part("printed entries", printed_entries, 1, 2, 2, spent);
     part("whole lists", whole_lists, 1, 0, 0, 0);
@@ -481,12 +486,12 @@ int main(int argc, char **argv)
     part("dw_length", try_length, 100 * scale, 1, 1, 0);
     part("dw_pair_at", try_pair_at, 300 * scale, 1, 2, 0);
     part("dw_pairs_from", try_pairs_from, 50 * scale, 1, 2, four);
-    part("dw_position_of", try_position_of, 300 * scale, 6, 8, 1u << 1);
-    part("dw_chain", try_chain, 300 * scale, 6, 7, 1u << 1 | four);
-    part("dw_site", try_site, 300 * scale, 5, 7, 1u << 1);
+    part("dw_position_of", try_position_of, 300 * scale, 6, 8, one);
+    part("dw_chain", try_chain, 300 * scale, 6, 7, one | four);
+    part("dw_site", try_site, 300 * scale, 5, 7, one);
     part("dw_sheet", try_sheet, 20 * scale, 6, 8, four | twelve);
-    part("the walk", try_walk, 100 * scale, 3, 3, 1u << 1 | spent);
-    part("dw_write", try_write, 200 * scale, 14, 16, four | 7u << 6 | twelve);
+    part("the walk", try_walk, 100 * scale, 3, 3, one | spent);
+    part("dw_write", try_write, 200 * scale, 14, 16, four | codes | twelve);
     part("dw_read", try_read, 200 * scale, 6, 17, four);
     return 0;
 }

@@ -1,8 +1,10 @@
 #!/usr/bin/env python3
 """The values that the crate compare must print, computed another way: polynomials are sets of exponents in the arithmetic, lists of pairs
 are filtered by plain Euclid and sorted by the key that document 01's order gives, sites are worked cell by cell, and trial files are read
-by a reader written from document 01. Run it to make crates/compare/stdout."""
+by a reader written from document 01. Run it to make crates/compare/stdout.
 
+With an argument the lists go up to that degree: reference.py 10"""
+import sys
 from math import comb
 
 
@@ -291,7 +293,7 @@ if __name__ == "__main__":
     print(chains())
     print(sites())
     print(sheets())
-    lists(12)
+    lists(int(sys.argv[1]) if len(sys.argv) > 1 else 12)
     print(spread(), 101)
     print(damaged())
     print(entries())

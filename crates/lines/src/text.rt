@@ -6,7 +6,7 @@ ghost use lib.ListN.{length};
 ghost use Rattle.lines.specs.Text.{decimal, line, Puts, Lined, refusedText, usedAfter, bufferAfter};
 
 // The first line, degree and the length of the list, at the front of `out`. It gives the line's length.
-pub fn heading(degree: u32, count: u64, out: &mut [u8; 64]) -> usize
+pub(crate) fn heading(degree: u32, count: u64, out: &mut [u8; 64]) -> usize
     ensures { λ r. ⌜ Lined (now (out .entry)) (line (degree ∷ count ∷ [])) r (now (out .exit)) ⌝ }
 {
     let at = field(degree as u64, b' ', out, 0);
@@ -14,7 +14,7 @@ pub fn heading(degree: u32, count: u64, out: &mut [u8; 64]) -> usize
 }
 
 // A line of position, f and g, likewise.
-pub fn pair_line(position: u64, f: u32, g: u32, out: &mut [u8; 64]) -> usize
+pub(crate) fn pair_line(position: u64, f: u32, g: u32, out: &mut [u8; 64]) -> usize
     ensures { λ r. ⌜ Lined (now (out .entry)) (line (position ∷ f ∷ g ∷ [])) r (now (out .exit)) ⌝ }
 {
     let at = field(position, b' ', out, 0);
@@ -23,7 +23,7 @@ pub fn pair_line(position: u64, f: u32, g: u32, out: &mut [u8; 64]) -> usize
 }
 
 // The line of a refusal, likewise.
-pub fn refusal_line(number: u32, out: &mut [u8; 64]) -> usize
+pub(crate) fn refusal_line(number: u32, out: &mut [u8; 64]) -> usize
     ensures { λ r. ⌜ Lined (now (out .entry)) (refusedText ++ line (number ∷ [])) r (now (out .exit)) ⌝ }
 {
     let at = copy(b"refused ", out, 0);
@@ -44,7 +44,7 @@ fn field(n: u64, end: u8, out: &mut [u8], at: usize) -> usize
 }
 
 // Puts bytes behind the first `used` of a buffer, and gives how many are used then. Without room for them it does nothing.
-pub fn append(out: &mut [u8], used: usize, bytes: &[u8]) -> usize
+pub(crate) fn append(out: &mut [u8], used: usize, bytes: &[u8]) -> usize
     ensures count { λ r. ⌜ r ≡ usedAfter (now (out .entry)) used (now (bytes .entry)) ⌝ }
     ensures content { λ _. ⌜ now (out .exit) ≡ bufferAfter (now (out .entry)) used (now (bytes .entry)) ⌝ }
 {
