@@ -3,7 +3,7 @@
 ghost use mathlib.Core.Path.{_≡_};
 ghost use Prim.Native.Nat.{_+_, _*_, _/_, _^_};
 
-// x / d, where d divides x; `share-exact` says so.
+// x / d, where d divides x and is not 0: the law `share-exact`.
 pub fn share(x: u32, d: u32) -> u32
     ensures { λ r. ⌜ r ≡ x * (2 ^ 32 / d + 1) / 2 ^ 32 ⌝ }
 {
@@ -11,7 +11,7 @@ pub fn share(x: u32, d: u32) -> u32
 }
 
 // The least whole number above 2^32 / d. Of the cases the compiler makes a table, where an array would be laid on the stack at each call;
-// no list has more than 30 gaps. With 0 among them the division needs no test, which would cost the table; the quotient by 0 counts as 0.
+// no list has more than 30 gaps. With 0 among them the division needs no test, which would cost the table; 2^32 / 0 is 0 in the contract.
 fn reciprocal(d: u32) -> u64
     ensures { λ r. ⌜ r ≡ 2 ^ 32 / d + 1 ⌝ }
 {

@@ -1,4 +1,4 @@
-// The list of coprime pairs: the pair at a position. The other calls of the list count words and divide as this one does.
+// The list of coprime pairs, and the pair at a position. `word_count` and `share` are public for the other calls of the list.
 mod division;
 mod pair;
 mod readers;
