@@ -26,9 +26,9 @@ pub fn list_sum(n: u32) -> u64 {
 // 1 if the pair at the position is found there again.
 fn back(n: u32, position: u64) -> u64 {
     match pairs::pair_at(n, position) {
-        pairs::Found::Codes(f, g) => match pairs::position_of(n, f, g) {
-            pairs::Place::At(found) => { if found == position { 1 } else { 0 } }
-            pairs::Place::Refused(_) => 0,
+        pairs::Found::Codes(f, g) => match positions::position_of(n, f, g) {
+            positions::Place::At(found) => { if found == position { 1 } else { 0 } }
+            positions::Place::Refused(_) => 0,
         },
         pairs::Found::Refused(_) => 0,
     }

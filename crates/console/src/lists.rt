@@ -1,7 +1,7 @@
 // The list of pairs, for C.
-use pairs::Filled;
+use listing::Filled;
 use pairs::Found;
-use pairs::Place;
+use positions::Place;
 use poly::Count;
 use poly::Degree;
 ghost use mathlib.Core.Path.{_≡_};
@@ -51,7 +51,7 @@ pub extern "C" fn dw_pairs_from(n: u32, position: u64, out: &mut [u32], count: &
     ensures { λ _. ⌜ now (out .exit) ≡ fromContent n position (now (out .entry)) ⌝ }
     ensures { λ _. ⌜ now (count .exit) ≡ value 0 (fromReply n position (length (now (out .entry)))) (now (count .entry)) ⌝ }
 {
-    let answer = pairs::pairs_from(n, position, out);
+    let answer = listing::pairs_from(n, position, out);
     match answer {
         Filled::Refused(refusal) => refusal.number(),
         Filled::Pairs(written) => {
@@ -67,7 +67,7 @@ pub extern "C" fn dw_position_of(n: u32, f: u32, g: u32, position: &mut u64) -> 
     ensures { λ r. ⌜ r ≡ status (positionReply n f g) ⌝ }
     ensures { λ _. ⌜ now (position .exit) ≡ value 0 (positionReply n f g) (now (position .entry)) ⌝ }
 {
-    let answer = pairs::position_of(n, f, g);
+    let answer = positions::position_of(n, f, g);
     match answer {
         Place::Refused(refusal) => refusal.number(),
         Place::At(place) => {

@@ -2,9 +2,9 @@
 use euclid::Chained;
 use libc::STDOUT_FILENO;
 use pairs::Found;
-use pairs::Place;
 use poly::Count;
 use poly::Degree;
+use positions::Place;
 use reply::Refusal;
 use squares::Symbols;
 use trial::ReadTrial;
@@ -68,7 +68,7 @@ fn position(n: u32) {
     text(b"position");
     number(n as u64);
     text(b":");
-    match pairs::position_of(n, 7, 5) {
+    match positions::position_of(n, 7, 5) {
         Place::At(position) => number(position),
         Place::Refused(refusal) => refused(refusal),
     }

@@ -5,7 +5,7 @@ use crate::input::degree_in;
 use crate::text::append;
 use crate::text::pair_line;
 use crate::text::refusal_line;
-use pairs::Filled;
+use listing::Filled;
 use poly::Count;
 use poly::Degree;
 ghost use Prim.Native.Nat.{_^_, _<_};
@@ -53,7 +53,7 @@ fn add_block(fd: i32, n: u32, position: u64, buffer: &mut [u8; 65536], used: usi
     requires { ⌜ position < 2 ^ 63 ⌝ }
 {
     let mut codes = [0u32; 512];
-    match pairs::pairs_from(n, position, &mut codes) {
+    match listing::pairs_from(n, position, &mut codes) {
         Filled::Refused(_) => used,
         Filled::Pairs(many) => add_pairs(fd, position, many, &codes, buffer, used),
     }

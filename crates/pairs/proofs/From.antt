@@ -17,7 +17,10 @@ use Rattle.pairs.specs.Pairs.{start, pairs, entry}
 use Rattle.pairs.specs.Replies.{codes, pairReply, pairAtReply, pairsFrom, fromReply, fromContent}
 use Rattle.pairs.specs.Claims.{FromClaim}
 use Rattle.pairs.proofs.Pairs.{length-pairs}
-use Rattle.pairs.proofs.Written.{length-codes}
+
+pub length-codes : (s : List Pair) → length (codes s) ≡ 2 * length s
+length-codes [] = refl
+length-codes (x ∷ s) = omega (arith, length-codes s)
 
 -- both codes of a pair among those of a list
 codes-at : (s : List Pair) (i : ℕ) → i < length s

@@ -1,11 +1,12 @@
 -- The compositions that are left in a walk over the gaps, as code counts them: C(gaps, commas) of them, and of these the share with a comma
 -- in the next gap comes first.
-use Prim.Native.Nat.{ℕ, zero, suc, _-_, _*_, _/_, _%_, _^_, _≤_, _<_}
+use Prim.Native.Nat.{ℕ, zero, suc, _+_, _-_, _*_, _/_, _^_, _≤_, _<_}
 use native.Mathlib.Numerals.{sub-one}
 use native.Mathlib.Decide.{decLt}
 use native.Mathlib.Omega.{arith}
 use mathlib.Core.Path.{_≡_, sym}
 use Rattle.pairs.specs.Counts.{choose}
+use Rattle.pairs.proofs.Reciprocals.{share-exact}
 use Rattle.pairs.proofs.Binomial.{choose-above, down-whole}
 use Rattle.pairs.proofs.Compositions.{parts, parts-share, pascal}
 use Rattle.pairs.proofs.Bounds.{choose-times-lt}
@@ -36,9 +37,11 @@ module _ (g p : ℕ) {index left : ℕ} (l : Left (suc g) p index left) where
     inside = omega (arith, l .inside);
   }
 
--- The share is a whole number.
-pub share-whole : (gaps commas : ℕ) {index left : ℕ} → Left gaps commas index left → 0 < gaps → left * commas % gaps ≡ 0
-share-whole gaps commas l pos = rw (l .count) (down-whole gaps commas pos)
+-- The share is a whole number, so the multiple by the reciprocal gives it.
+pub share-computed : (gaps commas : ℕ) {index left : ℕ} → Left gaps commas index left → 0 < gaps → gaps ≤ 30
+    → left * commas * (2 ^ 32 / gaps + 1) / 2 ^ 32 ≡ left * commas / gaps
+share-computed gaps commas {index} {left} l pos few =
+    share-exact (left * commas) gaps pos (rw (l .count) (down-whole gaps commas pos)) (share-fits l few)
 
 -- A comma is one of those left, a plus leaves enough gaps, and the share is no more than all.
 pub comma-left : (gaps commas : ℕ) {index left : ℕ} → Left gaps commas index left → 0 < gaps → index < left * commas / gaps → 1 ≤ commas

@@ -3,6 +3,7 @@ pub mod Entries
 pub mod Loops
 pub mod Words
 pub mod Letters
+pub mod Reciprocals
 pub mod Reading
 pub mod Shares
 pub mod Binomial
@@ -20,16 +21,7 @@ pub mod Constants
 pub mod Sequence
 pub mod Standing
 pub mod Undo
-pub mod Ranking
 pub mod Sizes
-pub mod ReadBack
-pub mod Assembly
-pub mod Chained
-pub mod Written
-pub mod Onward
 pub mod Gaps
-pub mod Heads
-pub mod Groups
-pub mod Listing
 pub mod From
 pub mod Examples

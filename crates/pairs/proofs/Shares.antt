@@ -8,8 +8,7 @@ use mathlib.Core.Bool.{true, false}
 use lib.ListN.{length}
 use Rattle.poly.proofs.Shifts.{one-shl}
 use Rattle.pairs.specs.Words.{State, s10, s11, s01, step, wordsFrom, words}
-use Rattle.pairs.proofs.Words.{count-suc, count-s11, neighbours, listed-words}
-use Rattle.pairs.proofs.Ranking.{length-words}
+use Rattle.pairs.proofs.Words.{count-suc, count-s11, neighbours, listed-words, length-words}
 
 pub split : (s : State) (m : ℕ) → 1 ≤ m
     → length (wordsFrom s m) ≡ length (wordsFrom (step s false) (m - 1)) + length (wordsFrom (step s true) (m - 1))

@@ -11,7 +11,7 @@ use lib.ListN.{length}
 use lib.Dec.{ltb}
 use lib.Arith.{lt-one}
 use borrow.Author.Tests.{lt-ltb, le-ltb}
-use Rattle.pairs.specs.Words.{State, s10, s11, s01, step, run, is10, wordsFrom, words}
+use Rattle.pairs.specs.Words.{State, s10, s11, s01, step, run, is10, wordsFrom, words, tabled}
 use Rattle.pairs.specs.Claims.{WordsClaim}
 use Rattle.pairs.proofs.Loops.{filter-append, filter-map, Listed, listed-map, listed-append}
 
@@ -59,6 +59,9 @@ listed-wordsFrom s (suc m) =
     (listed-append (listed-map (_∷_ false) [] (listed-wordsFrom (step s false) m))
     (listed-map (_∷_ true) [] (listed-wordsFrom (step s true) m)))
 
+pub length-words : (s : State) (m : ℕ) → length (wordsFrom s m) ≡ count s m
+length-words s m = listed-wordsFrom s m .long
+
 -- The kept words are those from (1,0).
 pub listed-words : (k : ℕ) → Listed (words k) (count s10 k) (wordAt s10 k) []
 unfolding wordsFrom
@@ -80,6 +83,10 @@ count-closed (suc k) = omega (arith, count-closed k, neighbours k, pow-suc 2 k)
 -- Document 01's (2^k + 2(-1)^k)/3, where (-1)^k is 1 - 2 (k % 2).
 pub words-closed : WordsClaim
 words-closed k = rw (listed-words k .long) (count-closed k)
+
+pub tabled-is : (k : ℕ) → k < 32 → tabled k ≡ length (words k)
+unfolding tabled
+tabled-is k h = rw (lt-ltb k 32 h)
 
 -- What the word at index i is known by.
 pub record WordAt (s : State) (m i : ℕ) (w : List Bool) : Type 0 where

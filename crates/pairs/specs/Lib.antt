@@ -5,5 +5,3 @@ pub mod Sequences
 pub mod Pairs
 pub mod Replies
 pub mod Claims
-pub mod Ranking
-pub mod Filling

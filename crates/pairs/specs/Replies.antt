@@ -1,4 +1,4 @@
--- The replies of this crate's calls.
+-- The replies of the list's calls: the pair at a position, the position of a pair, and the pairs from a position on.
 use Prim.Native.Nat.{ℕ, suc, _/_}
 use mathlib.Core.Bool.{cond, _&&_}
 use mathlib.Core.List.{List, [], _∷_, _++_}
@@ -10,12 +10,8 @@ use Rattle.poly.specs.Limits.{listLength}
 use Rattle.poly.specs.Causes.{degreeCause, codeCauses, commonFactor}
 use Rattle.euclid.specs.Chain.{Pair}
 use Rattle.pairs.specs.Pairs.{pairs, entry}
-use Rattle.pairs.specs.declared.answer.Filled.{Filled}
-use Rattle.pairs.specs.declared.answer.Filled.the-variants.{Pairs, Refused as Unfilled}
-use Rattle.pairs.specs.declared.answer.Found.{Found}
-use Rattle.pairs.specs.declared.answer.Found.the-variants.{Codes, Refused}
-use Rattle.pairs.specs.declared.answer.Place.{Place}
-use Rattle.pairs.specs.declared.answer.Place.the-variants.{At, Refused as Nowhere}
+use Rattle.pairs.specs.declared.pair.Found.{Found}
+use Rattle.pairs.specs.declared.pair.Found.the-variants.{Codes, Refused}
 
 abbrev pub foundReply : Found → Reply
 foundReply (Codes f g) = served (f ∷ g ∷ [])
@@ -35,10 +31,6 @@ abbrev pub indexOf : ℕ → ℕ → List Pair → ℕ
 indexOf f g [] = 0
 indexOf f g (pair ∷ rest) = cond (eqb (pair .f) f && eqb (pair .g) g) 0 (suc (indexOf f g rest))
 
-abbrev pub placeReply : Place → Reply
-placeReply (At position) = served (position ∷ [])
-placeReply (Nowhere refusal) = refused (numberOf refusal)
-
 -- The position of a pair.
 unfoldable pub positionReply : ℕ → ℕ → ℕ → Reply
 positionReply n f g =
@@ -52,10 +44,6 @@ codes (pair ∷ rest) = pair .f ∷ pair .g ∷ codes rest
 -- The pairs from a position on, as many as fit into `room` numbers.
 unfoldable pub pairsFrom : ℕ → ℕ → ℕ → List Pair
 pairsFrom n position room = take (room / 2) (drop position (pairs n))
-
-abbrev pub filledReply : Filled → Reply
-filledReply (Pairs count) = served (count ∷ [])
-filledReply (Unfilled refusal) = refused (numberOf refusal)
 
 -- How many there are; 4, a slice that holds no pair.
 unfoldable pub fromReply : ℕ → ℕ → ℕ → Reply

@@ -1,7 +1,8 @@
 -- Constant words (document 01, "Words"). A letter is a constant term: false is 0, true is 1.
 use Prim.Native.Nat.{ℕ, zero, suc, _+_, _^_}
-use mathlib.Core.Bool.{Bool, true, false}
+use mathlib.Core.Bool.{Bool, true, false, cond}
 use mathlib.Core.List.{List, [], _∷_, _++_, map}
+use lib.Dec.{ltb}
 use lib.ListN.{length}
 use Rattle.pairs.specs.Loops.{filter}
 
@@ -50,6 +51,10 @@ wordsFrom s m = filter (leads s) (allWords m)
 -- The kept words of k letters.
 abbrev pub words : ℕ → List (List Bool)
 words k = wordsFrom s10 k
+
+-- How many there are, in a table that ends at 31 letters; 0 past its end.
+unfoldable pub tabled : ℕ → ℕ
+tabled k = cond (ltb k 32) (length (words k)) 0
 
 -- A word as a binary number, first letter highest, as the readers of words give it.
 abbrev pub number : List Bool → ℕ

@@ -1,16 +1,10 @@
-// The list of coprime pairs: the pair at a position, the pairs from a position on, and the position of a pair.
-mod answer;
-mod fill;
+// The list of coprime pairs, and the pair at a position. `word_count` and `share` are public for the other calls of the list.
+mod division;
 mod pair;
-mod position;
-mod ranks;
 mod readers;
-mod share;
 mod table;
 
-pub use answer::Filled;
-pub use answer::Found;
-pub use answer::Place;
-pub use fill::pairs_from;
+pub use division::share;
+pub use pair::Found;
 pub use pair::pair_at;
-pub use position::position_of;
+pub use table::word_count;

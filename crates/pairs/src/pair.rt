@@ -1,7 +1,6 @@
 // The pair at a position, with no table of quotients.
-use crate::answer::Found;
+use crate::division::share;
 use crate::readers::from10;
-use crate::share::share;
 use crate::table::word_count;
 use poly::Count;
 use poly::Degree;
@@ -14,6 +13,12 @@ ghost use Rattle.pairs.specs.Sequences.{block, compositions};
 ghost use Rattle.pairs.specs.Words.{words as wordsOf};
 ghost use Rattle.pairs.specs.Pairs.{start, build, pairs};
 ghost use Rattle.pairs.specs.Replies.{foundReply, pairReply, pairAtReply};
+
+// The two codes at a position, or why there are none.
+pub enum Found {
+    Codes(u32, u32),
+    Refused(Refusal),
+}
 
 // The pair of degree n at a position of the list.
 pub fn pair_at(n: u32, position: u64) -> Found

@@ -1,7 +1,7 @@
 -- `dw_pairs_from` meets its contract: it passes on what the library answers.
 use mathlib.Core.Path.{_∙_}
 use borrow.Author.Needs.{needs}
-use Rattle.pairs.specs.Replies.{filledReply}
+use Rattle.listing.specs.Replies.{filledReply}
 use Rattle.console.proofs.Told.{told, returned, holds}
 use Rattle.console.proofs.lists.dw_pairs_from.Statement.{statement}
 use Rattle.console.proofs.lists.dw_pairs_from.Tie as tie

@@ -1,7 +1,7 @@
 -- `dw_position_of` meets its contract: it passes on what the library answers.
 use mathlib.Core.Path.{_∙_}
 use borrow.Author.Needs.{needs}
-use Rattle.pairs.specs.Replies.{placeReply}
+use Rattle.positions.specs.Replies.{placeReply}
 use Rattle.console.proofs.Told.{told, returned, holds}
 use Rattle.console.proofs.lists.dw_position_of.Statement.{statement}
 use Rattle.console.proofs.lists.dw_position_of.Tie as tie

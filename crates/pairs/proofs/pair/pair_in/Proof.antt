@@ -1,10 +1,14 @@
 -- `pair_in` meets its contract: the laws of `Turns` say that each turn of the loop keeps the pair that it is on the way to.
+use mathlib.Core.Path.{_≡_, _∙_}
 use Prim.Native.Nat.{_-_, _*_, _/_, _^_, _≤_, _<_}
 use native.Mathlib.Nat.{mod-lt, mod-mod}
 use native.Mathlib.Omega.{arith}
 use borrow.Author.Needs.{needs}
+use lib.ListN.{length}
+use Rattle.pairs.specs.Words.{words}
+use Rattle.pairs.proofs.Words.{tabled-is}
 use Rattle.pairs.proofs.PairWalk.{walkIn}
-use Rattle.pairs.proofs.Gaps.{comma-left, plus-left, share-fits, share-whole, share-le}
+use Rattle.pairs.proofs.Gaps.{comma-left, plus-left, share-fits, share-computed, share-le}
 use Rattle.pairs.proofs.Turns.{
   Between,
   first-turn,
@@ -25,11 +29,14 @@ Inv-loop n k count place words word bits index₀ left₀ gaps₀ commas₀ r₀
 abbrev μ-loop : tie.MeasureT-loop
 μ-loop n k count place words word bits index₀ left₀ gaps₀ commas₀ r₀ s₀ product₀ index left gaps commas r s product = gaps
 
+counted : (c : tie.After-word-count Inv-loop μ-loop) → c .word-count .result ≡ length (words (c .before .args .k))
+counted c = c .word-count .ensures ∙ tabled-is (c .before .args .k) (omega arith)
+
 positive : (c : tie.After-word-count Inv-loop μ-loop) → 0 < c .word-count .result
 positive c =
     let a = c .before .args in
     let (two, (le, (few, (compositions, fits)))) = c .before .pre in
-    some-word (a .n) (a .k) (a .place) two le fits (c .word-count .result) (c .word-count .ensures)
+    some-word (a .n) (a .k) (a .place) two le fits (c .word-count .result) (counted c)
 
 -- before the first turn
 begins : (c : tie.After-from10 Inv-loop μ-loop)
@@ -41,16 +48,16 @@ begins c =
     let a = c .before .before .args in
     let (two, (le, (few, (compositions, fits)))) = c .before .before .pre in
     first-turn (a .n) (a .k) (a .place) two le fits (a .count) (c .before .word-count .result) (c .from10 .result) few compositions
-    (c .before .word-count .ensures) (c .from10 .ensures)
+    (counted (c .before)) (c .from10 .ensures)
 
 word-count-requires : tie.Need-word-count-requires Inv-loop μ-loop
-word-count-requires c κs = omega arith
+word-count-requires c κs = search needs
 
 rem-from10 : tie.Need-rem-from10 Inv-loop μ-loop
 rem-from10 c = positive c
 
 from10-requires : tie.Need-from10-requires Inv-loop μ-loop
-from10-requires c κs = (omega arith, (c .word-count .ensures, mod-lt _ (positive c)))
+from10-requires c κs = (omega arith, (counted c, mod-lt _ (positive c)))
 
 div-bits : tie.Need-div-bits Inv-loop μ-loop
 div-bits c = positive (c .before)
@@ -81,21 +88,27 @@ mul-share c =
     let b = c .before .loop .inv in record { fits = share-fits (b .share) (omega (arith, b .few, b .gap)) }
 
 share-requires : tie.Need-share-requires Inv-loop μ-loop
-share-requires c κs = (c .loop-test .taken, share-whole _ _ (c .before .loop .inv .share) (c .loop-test .taken))
+share-requires c κs = search needs
 
 sub-gaps-2 : tie.Need-sub-gaps-2 Inv-loop μ-loop
 sub-gaps-2 c = omega arith
+
+shared : (c : tie.After-share Inv-loop μ-loop)
+    → c .share .result ≡ c .before .before .loop .left * c .before .before .loop .commas / c .before .before .loop .gaps
+shared c =
+    let b = c .before .before .loop .inv in
+    c .share .ensures ∙ share-computed _ _ (b .share) (c .before .loop-test .taken) (omega (arith, b .few, b .gap))
 
 -- the test, with the share in its place
 comma : (c : tie.Then1 Inv-loop μ-loop)
     → c .before .before .before .loop .index
     < c .before .before .before .loop .left * c .before .before .before .loop .commas / c .before .before .before .loop .gaps
-comma c = rw (c .before .share .ensures) at (c .if1 .taken)
+comma c = rw (shared (c .before)) at (c .if1 .taken)
 
 plus : (c : tie.Else1 Inv-loop μ-loop)
     → c .before .before .before .loop .left * c .before .before .before .loop .commas / c .before .before .before .loop .gaps
     ≤ c .before .before .before .loop .index
-plus c = rw (c .before .share .ensures) at (c .if1 .left)
+plus c = rw (shared (c .before)) at (c .if1 .left)
 
 shr-scaled : tie.Need-shr-scaled Inv-loop μ-loop
 shr-scaled c = omega (arith, commas-lt (c .before .before .before .loop .inv))
@@ -113,7 +126,7 @@ loop-less c = omega (arith, c .before .before .before .loop-test .taken)
 
 loop-again : tie.Need-loop-again Inv-loop μ-loop
 loop-again c =
-    rw (c .before .before .share .ensures, c .scaled .ensures)
+    rw (shared (c .before .before), c .scaled .ensures)
     (comma-turn _ _ (c .before .before .before .before .loop .inv) (c .before .before .before .loop-test .taken) (comma (c .before)))
 
 sub-scaled : tie.Need-sub-scaled Inv-loop μ-loop
@@ -133,7 +146,7 @@ scaled-requires-2 c κs = search needs
 
 sub-left : tie.Need-sub-left Inv-loop μ-loop
 sub-left c =
-    rw (c .before .before .share .ensures)
+    rw (shared (c .before .before))
     (share-le _ _ (c .before .before .before .before .loop .inv .share) (c .before .before .before .loop-test .taken))
 
 loop-less-2 : tie.Need-loop-less-2 Inv-loop μ-loop
@@ -141,7 +154,7 @@ loop-less-2 c = omega (arith, c .before .before .before .loop-test .taken)
 
 loop-again-2 : tie.Need-loop-again-2 Inv-loop μ-loop
 loop-again-2 c =
-    rw (c .before .before .share .ensures, c .scaled2 .ensures, mod-mod)
+    rw (shared (c .before .before), c .scaled2 .ensures, mod-mod)
     (plus-turn _ _ (c .before .before .before .before .loop .inv) (c .before .before .before .loop-test .taken) (plus (c .before)))
 
 scaled-requires-3 : tie.Need-scaled-requires-3 Inv-loop μ-loop

@@ -19,7 +19,7 @@ use Rattle.pairs.proofs.Compositions.{parts, listed-compositions}
 use Rattle.pairs.proofs.Blocks.{blockSize, blockAt, listed-block}
 use Rattle.pairs.proofs.Sequences.{sequenceAt}
 use Rattle.pairs.proofs.Pairs.{length-blocks, pairAt-is}
-use Rattle.pairs.proofs.Sizes.{parts-two, parts-next, next-share}
+use Rattle.pairs.proofs.Sizes.{parts-two, next-share}
 use Rattle.pairs.proofs.pair.seek.Statement.{statement}
 use Rattle.pairs.proofs.pair.seek.Tie as tie
 
@@ -70,12 +70,11 @@ module _ {n position k count kept place : ℕ} (h : Seeking n position k count k
   counted : count ≡ parts n k
   counted = h .parts ∙ listed-compositions n k .long
 
-  share : (count * (n - k) < 2 ^ 32) × (count * (n - k) % k ≡ 0)
+  share : (count * (n - k) < 2 ^ 32) × (count * (n - k) * (2 ^ 32 / k + 1) / 2 ^ 32 ≡ parts n (k + 1))
   share = next-share n k (omega (arith, h .low)) (h .high) (omega (arith, h .few)) counted
 
-  next-count : count * (n - k) / k ≡ length (compositions n (k + 1))
-  next-count =
-      rw counted (parts-next n k (omega (arith, h .low, h .high)) (omega (arith, h .low))) ∙ sym (listed-compositions n (k + 1) .long)
+  next-count : count * (n - k) * (2 ^ 32 / k + 1) / 2 ^ 32 ≡ length (compositions n (k + 1))
+  next-count = share .1 ∙ sym (listed-compositions n (k + 1) .long)
 
   blocks : suc n - k ≡ suc (n - k)
   blocks = omega (arith, h .high)
@@ -85,16 +84,17 @@ module _ {n position k count kept place : ℕ} (h : Seeking n position k count k
     size-is : s ≡ blockSize n k
     size-is = is ∙ listed-block n k .long
 
-    passes : s ≤ place → Seeking n position (k + 1) (count * (n - k) / k) (1 * 2 ^ k % 2 ^ 64 - kept) (place - s)
+    passes : s ≤ place
+        → Seeking n position (k + 1) (count * (n - k) * (2 ^ 32 / k + 1) / 2 ^ 32) (1 * 2 ^ k % 2 ^ 64 - kept) (place - s)
     passes le =
         let all : place < blockSize n k + loops.before (blockSize n) (suc k) (n - k) = rw blocks at (h .inside) in
         let rest : place - s < loops.before (blockSize n) (suc k) (n - k) = omega (arith, size-is) in
-        rw add-one
+        rw (add-one k)
         (record {
           few = h .few;
           low = omega (arith, h .low);
           high = omega (arith, some (blockSize n) (suc k) (n - k) (place - s) rest);
-          parts = rw add-one at next-count;
+          parts = rw (add-one k) at next-count;
           letters = next-words k kept (omega (arith, h .high, h .few)) (h .letters);
           inside = rw suc-sub-suc rest;
           is =
@@ -143,7 +143,7 @@ mul-share : tie.Need-mul-share Inv-loop μ-loop
 mul-share c = record { fits = share (c .before .loop .inv .0) .0 }
 
 share-requires : tie.Need-share-requires Inv-loop μ-loop
-share-requires c κs = let b = c .before .loop .inv .0 in (omega (arith, b .low), share b .1)
+share-requires c κs = search needs
 
 cast-words : tie.Need-cast-words Inv-loop μ-loop
 cast-words c = search needs

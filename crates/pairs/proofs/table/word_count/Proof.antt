@@ -1,15 +1,16 @@
 -- `word_count` meets its contract: the closed form, tried at each of the 32 entries in one computation, holds of the number of words too.
 use mathlib.Core.Bool.{Bool}
 use mathlib.Core.List.{List, [], _∷_}
-use mathlib.Core.Path.{_≡_}
+use mathlib.Core.Path.{_≡_, sym, _∙_}
 use Prim.Native.Nat.{ℕ, _+_, _*_, _%_, _^_, _<_}
 use native.Mathlib.Omega.{arith}
 use borrow.Author.Needs.{needs}
+use borrow.Author.Tests.{le-ltb}
 use lib.Dec.{eqb, eqb→eq, ltb, ltb→lt}
 use lib.ListN.{length, getD}
-use Rattle.pairs.specs.Words.{words}
+use Rattle.pairs.specs.Words.{words, tabled}
 use Rattle.pairs.proofs.Entries.{entry}
-use Rattle.pairs.proofs.Words.{words-closed}
+use Rattle.pairs.proofs.Words.{words-closed, tabled-is}
 use Rattle.pairs.proofs.table.word_count.Statement.{statement}
 use Rattle.pairs.proofs.table.word_count.Tie as tie
 
@@ -33,6 +34,10 @@ small : (k : ℕ) → k < 32 → getD table k 0 < 2 ^ 64
 unfolding table
 small k h = ltb→lt (getD table k 0) (2 ^ 64) (entry (λ k x. ltb x (2 ^ 64)) table tt k h)
 
+returns : tie.Need-returns
+unfolding tabled
+returns c = rw (le-ltb (c .before .args .k) 32 (c .if1 .taken))
+
 mul-result : tie.Need-mul-result
 mul-result c = search needs
 
@@ -41,11 +46,11 @@ array-read-result c = search needs
 
 cast-result : tie.Need-cast-result
 unfolding table
-cast-result c = record { fits = small (c .args .k) (search needs) }
+cast-result c = record { fits = small (c .before .args .k) (search needs) }
 
-returns : tie.Need-returns
+returns-2 : tie.Need-returns-2
 unfolding table
-returns c = right (c .args .k) (search needs)
+returns-2 c = right (c .before .args .k) (search needs) ∙ sym (tabled-is (c .before .args .k) (search needs))
 
 pub word-count-spec : {M : Type 1} → statement M
-word-count-spec = tie.close (tie.spec mul-result array-read-result cast-result returns)
+word-count-spec = tie.close (tie.spec returns mul-result array-read-result cast-result returns-2)

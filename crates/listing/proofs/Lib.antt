@@ -1,0 +1,5 @@
+pub mod Written
+pub mod Onward
+pub mod Heads
+pub mod Groups
+pub mod Listing

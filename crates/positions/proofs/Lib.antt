@@ -1,0 +1,5 @@
+pub mod Ranking
+pub mod Preceding
+pub mod ReadBack
+pub mod Assembly
+pub mod Chained
