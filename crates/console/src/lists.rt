@@ -1,14 +1,16 @@
 // The list of pairs, for C.
 use listing::Filled;
 use pairs::Found;
-use positions::Place;
 use poly::Count;
 use poly::Degree;
+use positions::Place;
 ghost use mathlib.Core.Path.{_≡_};
 ghost use lib.ListN.{length};
 ghost use Rattle.console.specs.Status.{status, value};
 ghost use Rattle.poly.specs.Replies.{lengthReply};
-ghost use Rattle.pairs.specs.Replies.{pairAtReply, fromReply, fromContent, positionReply};
+ghost use Rattle.pairs.specs.Replies.{pairAtReply};
+ghost use Rattle.positions.specs.Replies.{positionReply};
+ghost use Rattle.listing.specs.Replies.{fromReply, fromContent};
 
 // The length of the list of degree n.
 #[no_mangle]

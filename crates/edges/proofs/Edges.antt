@@ -9,7 +9,8 @@ use Rattle.euclid.specs.Chain.{chain}
 use Rattle.pairs.specs.Words.{wordsFrom}
 use Rattle.pairs.specs.Sequences.{compositions, sequences, block}
 use Rattle.pairs.specs.Pairs.{turn, build, pairs}
-use Rattle.pairs.specs.Replies.{pairAtReply, positionReply}
+use Rattle.pairs.specs.Replies.{pairAtReply}
+use Rattle.positions.specs.Replies.{positionReply}
 use Rattle.squares.specs.Symbols.{outputCell, symbol}
 use Rattle.squares.specs.Replies.{siteReply}
 use Rattle.walk.specs.Walks.{badRecord, lookReply, afterDraw}

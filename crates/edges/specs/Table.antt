@@ -7,7 +7,8 @@ use lib.ListN.{length, take, drop, replicate}
 use Rattle.reply.specs.Reply.{Reply, served, refused, spent}
 use Rattle.poly.specs.Replies.{orderReply, lengthReply}
 use Rattle.euclid.specs.Replies.{chainReply, chainContent}
-use Rattle.pairs.specs.Replies.{pairAtReply, positionReply}
+use Rattle.pairs.specs.Replies.{pairAtReply}
+use Rattle.positions.specs.Replies.{positionReply}
 use Rattle.squares.specs.Replies.{siteReply}
 use Rattle.walk.specs.declared.Walk.{Walk}
 use Rattle.walk.specs.Walks.{startReply, started, lookReply, afterDraw}

@@ -4,8 +4,8 @@ use mathlib.Core.Path.{_≡_, sym, ap}
 use Prim.Native.Nat.{ℕ, _+_, _<_}
 use lib.ListN.{length}
 use Rattle.reply.specs.Reply.{served}
-use Rattle.pairs.specs.Replies.{fromReply, fromContent}
-use Rattle.pairs.proofs.From.{from-entries}
+use Rattle.listing.specs.Replies.{fromReply, fromContent}
+use Rattle.listing.proofs.From.{from-entries}
 use Rattle.lines.specs.Text.{replyLine}
 use Rattle.lines.specs.Output.{entryLine, lineFrom}
 

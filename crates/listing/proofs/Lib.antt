@@ -3,3 +3,4 @@ pub mod Onward
 pub mod Heads
 pub mod Groups
 pub mod Listing
+pub mod From

@@ -9,8 +9,8 @@ use mathlib.Core.List.{List, [], _∷_, _++_}
 use lib.ListN.{length, take, drop, set, length-append, drop-of-length-le}
 use lib.Seq.{sets, length-sets, length-take-le, take-nil, take-all}
 use Rattle.euclid.specs.Chain.{Pair}
-use Rattle.pairs.specs.Replies.{codes}
-use Rattle.pairs.proofs.From.{length-codes}
+use Rattle.listing.specs.Replies.{codes}
+use Rattle.listing.proofs.From.{length-codes}
 use Rattle.listing.specs.Filling.{fitting, Written}
 
 module _ {A : Type 0} where

@@ -10,7 +10,7 @@ use Rattle.euclid.specs.Chain.{Pair}
 use Rattle.pairs.specs.Words.{State, s10, s11, s01, wordsFrom}
 use Rattle.pairs.specs.Sequences.{bit, compositions, quotients}
 use Rattle.pairs.specs.Pairs.{turn, turns}
-use Rattle.pairs.specs.Replies.{codes}
+use Rattle.listing.specs.Replies.{codes}
 
 -- The pairs of a list behind the first `skip`, as many as there is room for in a slice that holds `done` pairs.
 abbrev pub fitting : List Pair → ℕ → List ℕ → ℕ → List Pair

@@ -14,8 +14,7 @@ ghost use Rattle.poly.specs.Code.{add, mul};
 ghost use Rattle.pairs.specs.Words.{wordsFrom};
 ghost use Rattle.pairs.specs.Sequences.{block, compositions};
 ghost use Rattle.pairs.specs.Pairs.{build, pairs};
-ghost use Rattle.pairs.specs.Replies.{fromReply, fromContent};
-ghost use Rattle.listing.specs.Replies.{filledReply};
+ghost use Rattle.listing.specs.Replies.{filledReply, fromReply, fromContent};
 ghost use Rattle.listing.specs.Filling.{Written, Ready, HeadsOf, stateOf, onward};
 
 // How many pairs were written, or why there are none.

@@ -20,8 +20,6 @@ pub mod Turns
 pub mod Constants
 pub mod Sequence
 pub mod Standing
-pub mod Undo
 pub mod Sizes
 pub mod Gaps
-pub mod From
 pub mod Examples

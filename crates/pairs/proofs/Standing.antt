@@ -6,16 +6,18 @@ use Prim.Native.Nat.{ℕ, zero, suc, _%_, _≤_, _<_}
 use native.Mathlib.Nat.{lt-trans}
 use native.Mathlib.Decide.{ℕ-discrete}
 use native.Mathlib.Omega.{arith}
-use borrow.Author.Tests.{eq-eqb, ne-eqb}
+use borrow.Author.Tests.{eq-eqb, ne-eqb, lt-leb}
 use lib.Dec.{eqb}
 use lib.ListN.{length, getD, length-map}
+use Rattle.poly.specs.Limits.{listLength}
 use Rattle.poly.specs.Code.{HasDegree}
 use Rattle.poly.specs.Coprime.{gcd}
+use Rattle.poly.proofs.Ranges.{inside}
 use Rattle.poly.proofs.Binary.{coprime-one}
 use Rattle.euclid.specs.Chain.{Chain, Pair, chain}
 use Rattle.pairs.specs.Sequences.{sequences}
-use Rattle.pairs.specs.Pairs.{build, pairs, start, CoprimePair}
-use Rattle.pairs.specs.Replies.{indexOf}
+use Rattle.pairs.specs.Pairs.{build, pairs, entry, start, indexOf, CoprimePair}
+use Rattle.pairs.specs.Replies.{pairReply, pairAtReply}
 use Rattle.pairs.specs.Claims.{Stands, ListClaim}
 use Rattle.pairs.proofs.Valid.{Valid}
 use Rattle.pairs.proofs.Sequences.{sequenceRank, sequenceAt-is, sequences-valid, valid-once}
@@ -109,3 +111,9 @@ list-complete n pos =
       coprime = entries-coprime n;
       once = coprime-stands n pos;
     }
+
+-- ---- what the pair call answers
+module _ (n : ℕ) (low : 1 ≤ n) (high : n ≤ 31) where
+  pub pair-answers : (j : ℕ) → j < listLength n → pairAtReply n j ≡ pairReply (entry n j)
+  unfolding pairAtReply
+  pair-answers j h = rw (inside 1 31 low high, lt-leb (listLength n) j h)

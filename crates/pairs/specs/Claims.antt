@@ -1,17 +1,14 @@
--- What is shown of the list, of the words and of the calls.
-use mathlib.Core.Logic.{_↔_}
-use mathlib.Core.List.{List, [], _∷_, map}
+-- What is shown of the words and of the list.
+use mathlib.Core.List.{map}
 use mathlib.Core.Path.{_≡_}
 use Prim.Native.Nat.{ℕ, _+_, _-_, _*_, _%_, _^_, _≤_, _<_}
-use lib.ListN.{length, getD}
-use Rattle.reply.specs.Reply.{served}
+use lib.ListN.{length}
 use Rattle.poly.specs.Limits.{listLength}
 use Rattle.euclid.specs.Chain.{Pair}
 use Rattle.pairs.specs.Loops.{numbers}
 use Rattle.pairs.specs.Counts.{sum, choose}
 use Rattle.pairs.specs.Words.{words}
 use Rattle.pairs.specs.Pairs.{pairs, entry, CoprimePair}
-use Rattle.pairs.specs.Replies.{pairAtReply, positionReply, fromReply, fromContent}
 
 -- There are (2^k + 2(-1)^k)/3 kept words of k letters: three times their number is 2^k + 2 for even k, 2^k - 2 for odd k.
 abbrev pub WordsClaim : Type 0
@@ -40,14 +37,3 @@ pub record Complete (n : ℕ) : Type 0 where
 
 abbrev pub ListClaim : Type 0
 ListClaim = (n : ℕ) → 1 ≤ n → Complete n
-
--- The pair call and the position call undo each other.
-abbrev pub UndoClaim : Type 0
-UndoClaim = (n : ℕ) → 1 ≤ n → n ≤ 31 → (j f g : ℕ) → (pairAtReply n j ≡ served (f ∷ g ∷ [])) ↔ (positionReply n f g ≡ served (j ∷ []))
-
--- The call for many pairs writes what the pair call answers, position by position.
-abbrev pub FromClaim : Type 0
-FromClaim =
-    (n position : ℕ) (out : List ℕ) (many i : ℕ) → fromReply n position (length out) ≡ served (many ∷ []) → i < many
-    → let now : List ℕ = fromContent n position out in
-    pairAtReply n (position + i) ≡ served (getD now (2 * i) 0 ∷ getD now (2 * i + 1) 0 ∷ [])

@@ -1,7 +1,9 @@
 -- The list of pairs (document 01, "The list"): each sequence of quotients built up from (1, 0).
 use mathlib.Core.Path.{_≡_}
-use Prim.Native.Nat.{ℕ, _%_}
+use Prim.Native.Nat.{ℕ, suc, _%_}
+use mathlib.Core.Bool.{cond, _&&_}
 use mathlib.Core.List.{List, [], _∷_, map}
+use lib.Dec.{eqb}
 use lib.ListN.{getD}
 use Rattle.poly.specs.Code.{HasDegree}
 use Rattle.poly.specs.Coprime.{Coprime}
@@ -30,6 +32,11 @@ pairs n = map build (sequences n)
 -- The pair at a position of it, counted from 0; (1, 0) behind its end, where no call gives it.
 abbrev pub entry : ℕ → ℕ → Pair
 entry n j = getD (pairs n) j start
+
+-- Where a pair stands in a list, counted from 0; the list's length if it does not.
+abbrev pub indexOf : ℕ → ℕ → List Pair → ℕ
+indexOf f g [] = 0
+indexOf f g (pair ∷ rest) = cond (eqb (pair .f) f && eqb (pair .g) g) 0 (suc (indexOf f g rest))
 
 -- An ordered pair of coprime codes of degree n, both with constant term one.
 pub record CoprimePair (n : ℕ) (pair : Pair) : Type 0 where

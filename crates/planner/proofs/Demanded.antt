@@ -15,8 +15,8 @@ use Rattle.poly.specs.Causes.{codeCauses}
 use Rattle.poly.proofs.Ranges.{inside, on-degree}
 use Rattle.poly.proofs.Primes.{inverses-2}
 use Rattle.pairs.specs.Pairs.{pairs}
-use Rattle.pairs.proofs.Standing.{list-complete}
-use Rattle.pairs.proofs.Undo.{pair-answers, entry-found}
+use Rattle.pairs.proofs.Standing.{list-complete, pair-answers}
+use Rattle.positions.proofs.Undo.{entry-found}
 use Rattle.squares.specs.Symbols.{symbol}
 use Rattle.squares.specs.Replies.{siteCauses, siteReply}
 use Rattle.squares.proofs.Claims.{squares-orthogonal}

@@ -13,7 +13,8 @@ use Rattle.poly.specs.Coprime.{Coprime}
 use Rattle.poly.specs.Limits.{listLength}
 use Rattle.euclid.specs.Chain.{Pair}
 use Rattle.pairs.specs.Pairs.{pairs, entry, CoprimePair}
-use Rattle.pairs.specs.Replies.{pairReply, pairAtReply, positionReply}
+use Rattle.pairs.specs.Replies.{pairReply, pairAtReply}
+use Rattle.positions.specs.Replies.{positionReply}
 use Rattle.squares.specs.Squares.{ExactlyOne, Orthogonal}
 use Rattle.squares.specs.Symbols.{symbol}
 use Rattle.squares.specs.Replies.{siteReply}

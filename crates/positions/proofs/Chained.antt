@@ -16,9 +16,9 @@ use Rattle.poly.proofs.Ranges.{within, Passed, passed-codes}
 use Rattle.euclid.specs.Chain.{Chain, chain}
 use Rattle.euclid.specs.Replies.{chainReply, chainContent}
 use Rattle.euclid.proofs.Chains.{chain-divisor, first-quotient}
-use Rattle.pairs.specs.Pairs.{pairs}
+use Rattle.pairs.specs.Pairs.{pairs, indexOf}
 use Rattle.pairs.specs.Sequences.{sequences}
-use Rattle.pairs.specs.Replies.{positionReply, indexOf}
+use Rattle.positions.specs.Replies.{positionReply}
 use Rattle.positions.specs.Ranking.{StandsAt, Among, backwards}
 use Rattle.positions.proofs.Ranking.{sequence-stands, sequence-rank, backwards-reverse}
 use Rattle.pairs.proofs.Valid.{Valid}

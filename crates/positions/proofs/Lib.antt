@@ -3,3 +3,4 @@ pub mod Preceding
 pub mod ReadBack
 pub mod Assembly
 pub mod Chained
+pub mod Undo

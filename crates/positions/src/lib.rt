@@ -14,8 +14,7 @@ ghost use lib.ListN.{length};
 ghost use Rattle.poly.specs.Code.{degree};
 ghost use Rattle.pairs.specs.Loops.{numbers, each};
 ghost use Rattle.pairs.specs.Sequences.{compositions, block, sequences};
-ghost use Rattle.pairs.specs.Replies.{positionReply};
-ghost use Rattle.positions.specs.Replies.{placeReply};
+ghost use Rattle.positions.specs.Replies.{placeReply, positionReply};
 ghost use Rattle.positions.specs.Ranking.{StandsAt, Among, backwards, Sequence, Parts};
 
 // The position of two codes, or why they have none.

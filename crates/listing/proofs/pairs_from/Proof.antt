@@ -16,9 +16,9 @@ use Rattle.poly.specs.Replies.{countReply, lengthReply}
 use Rattle.poly.proofs.Ranges.{within, length-served, length-refused}
 use Rattle.euclid.specs.Chain.{Pair}
 use Rattle.pairs.specs.Pairs.{pairs}
-use Rattle.pairs.specs.Replies.{codes, pairsFrom, fromReply, fromContent}
+use Rattle.listing.specs.Replies.{codes, pairsFrom, fromReply, fromContent}
 use Rattle.listing.specs.Filling.{fitting, Written}
-use Rattle.pairs.proofs.From.{length-codes}
+use Rattle.listing.proofs.From.{length-codes}
 use Rattle.listing.proofs.Written.{fitting-le}
 use Rattle.listing.proofs.pairs_from.Statement.{statement}
 use Rattle.listing.proofs.pairs_from.Tie as tie

@@ -13,10 +13,11 @@ use Rattle.reply.proofs.Order.{none-applies, none-refuses}
 use Rattle.poly.specs.Limits.{outside, listLength}
 use Rattle.poly.specs.Causes.{degreeCause}
 use Rattle.euclid.specs.Chain.{Pair}
 use Rattle.pairs.specs.Pairs.{start, pairs, entry}
-use Rattle.pairs.specs.Replies.{codes, pairReply, pairAtReply, pairsFrom, fromReply, fromContent}
-use Rattle.pairs.specs.Claims.{FromClaim}
+use Rattle.pairs.specs.Replies.{pairReply, pairAtReply}
 use Rattle.pairs.proofs.Pairs.{length-pairs}
+use Rattle.listing.specs.Replies.{codes, pairsFrom, fromReply, fromContent}
+use Rattle.listing.specs.Claims.{FromClaim}
 
 pub length-codes : (s : List Pair) → length (codes s) ≡ 2 * length s
 length-codes [] = refl

@@ -4,7 +4,7 @@ use mathlib.Core.List.{[], _∷_, _++_}
 use mathlib.Core.Path.{_≡_, refl, sym, ap, _∙_}
 use Prim.Native.Nat.{ℕ, _%_, _≤_, _<_}
 use native.Mathlib.Omega.{arith}
-use borrow.Author.Tests.{lt-leb, leb-false, eq-eqb, ne-eqb, eqb-true, not-false}
+use borrow.Author.Tests.{leb-false, eq-eqb, ne-eqb, eqb-true, not-false}
 use lib.Dec.{leb, eqb}
 use lib.ListN.{length}
 use Rattle.reply.specs.Reply.{served, _gives_}
@@ -15,20 +15,17 @@ use Rattle.poly.specs.Causes.{degreeCause, codeCauses, commonFactor}
 use Rattle.poly.proofs.Binary.{coprime-one}
 use Rattle.poly.proofs.Ranges.{inside, on-degree, passed-codes}
 use Rattle.euclid.specs.Chain.{Pair}
-use Rattle.pairs.specs.Pairs.{pairs, entry, CoprimePair}
-use Rattle.pairs.specs.Replies.{pairReply, pairAtReply, indexOf, positionReply}
-use Rattle.pairs.specs.Claims.{UndoClaim}
+use Rattle.pairs.specs.Pairs.{pairs, entry, indexOf, CoprimePair}
+use Rattle.pairs.specs.Replies.{pairReply, pairAtReply}
 use Rattle.pairs.proofs.Pairs.{length-pairs}
-use Rattle.pairs.proofs.Standing.{entries-coprime, coprime-stands, index-stands}
+use Rattle.pairs.proofs.Standing.{entries-coprime, coprime-stands, index-stands, pair-answers}
+use Rattle.positions.specs.Replies.{positionReply}
+use Rattle.positions.specs.Claims.{UndoClaim}
 
 odd : (code : ℕ) → code % 2 ≡ 1 → eqb (code % 2) 0 ≡ false
 odd code e = ne-eqb (code % 2) 0 (λ z. omega arith)
 
 module _ (n : ℕ) (low : 1 ≤ n) (high : n ≤ 31) where
-  pub pair-answers : (j : ℕ) → j < listLength n → pairAtReply n j ≡ pairReply (entry n j)
-  unfolding pairAtReply
-  pair-answers j h = rw (inside 1 31 low high, lt-leb (listLength n) j h)
-
   position-answers : (two : Pair) → CoprimePair n two
       → positionReply n (two .f) (two .g) ≡ served (indexOf (two .f) (two .g) (pairs n) ∷ [])
   unfolding positionReply codeCauses
@@ -64,7 +61,7 @@ module _ (n : ℕ) (low : 1 ≤ n) (high : n ≤ 31) where
   pair-found j f g e =
       let (inner, (before-end, end)) = none-applies (degreeCause n ∷ leb (listLength n) j gives 2 ∷ []) _ _ e in
       let h : j < listLength n = leb-false (listLength n) j before-end in
-      let given : served (entry n j .f ∷ entry n j .g ∷ []) ≡ served (f ∷ g ∷ []) = sym (pair-answers j h) ∙ e in
+      let given : served (entry n j .f ∷ entry n j .g ∷ []) ≡ served (f ∷ g ∷ []) = sym (pair-answers n low high j h) ∙ e in
       let ef : entry n j .f ≡ f = cc in
       let eg : entry n j .g ≡ g = cc in
       sym (λ i. positionReply n (ef i) (eg i)) ∙ entry-found j h
@@ -92,7 +89,7 @@ module _ (n : ℕ) (low : 1 ≤ n) (high : n ≤ 31) where
       let index : indexOf f g (pairs n) ≡ j = cc in
       let at : s .position ≡ j = sym (index-stands n pair s) ∙ index in
       let below : s .position < listLength n = rw length-pairs at (s .below) in
-      ap (pairAtReply n) (sym at) ∙ pair-answers (s .position) below ∙ ap pairReply (s .there)
+      ap (pairAtReply n) (sym at) ∙ pair-answers n low high (s .position) below ∙ ap pairReply (s .there)
 
 pub calls-undo : UndoClaim
 calls-undo n low high j f g = (pair-found n low high j f g, position-served n low high j f g)
