@@ -8,8 +8,8 @@ use poly::Count;
 use poly::Degree;
 use squares::Laid;
 use squares::Symbols;
-use trial::ReadTrial;
-use trial::Written;
+use trial_reader::ReadTrial;
+use trial_writer::Written;
 use walk::Next;
 use walk::Started;
 use walk::Walk;
@@ -20,7 +20,7 @@ ghost use Rattle.poly.specs.Replies.{lengthReply};
 ghost use Rattle.euclid.specs.Replies.{chainReply, chainContent};
 ghost use Rattle.pairs.specs.Replies.{pairAtReply, fromReply, fromContent, positionReply};
 ghost use Rattle.squares.specs.Replies.{siteReply, sheetReply, sheetBytes};
-ghost use Rattle.trial.specs.Answers.{trialFrom};
+ghost use Rattle.trial.specs.Trial.{trialFrom};
 ghost use Rattle.walk.specs.Walks.{nextReply};
 ghost use Rattle.console.specs.Records.{walkOf, Starts, Looks, Draws, TrialRead, TrialWritten};
 
@@ -180,7 +180,7 @@ pub extern "C" fn dw_read(
         (now (powers .exit)) (now (forces .exit))
         (now (degree .exit)) (now (f .exit)) (now (g .exit)) (now (name .exit)) (now (size .exit)) r ⌝ }
 {
-    let answer = trial::read(file, powers, forces);
+    let answer = trial_reader::read(file, powers, forces);
     match answer {
         ReadTrial::Refused(refusal) => refusal.number(),
         ReadTrial::Content(content) => {
@@ -210,7 +210,7 @@ pub extern "C" fn dw_write(
         ⌜ TrialWritten (trialFrom n f g (now (powers .entry)) (now (forces .entry)) (now (name .entry)))
         (now (out .entry)) (now (size .entry)) (now (out .exit)) (now (size .exit)) r ⌝ }
 {
-    let answer = trial::write(n, f, g, powers, forces, name, out);
+    let answer = trial_writer::write(n, f, g, powers, forces, name, out);
     match answer {
         Written::Refused(refusal) => refusal.number(),
         Written::Length(length) => {

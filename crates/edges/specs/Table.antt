@@ -11,9 +11,8 @@ use Rattle.pairs.specs.Replies.{pairAtReply, positionReply}
 use Rattle.squares.specs.Replies.{siteReply}
 use Rattle.walk.specs.Walks.{startReply, lookReply, afterDraw}
 use Rattle.walk.specs.Calls.{begun}
-use Rattle.trial.specs.Trial.{Trial}
+use Rattle.trial.specs.Trial.{Trial, trialFrom}
 use Rattle.trial.specs.Replies.{read, readReply, levelsAfter, writeReply, fileAfter}
-use Rattle.trial.specs.Answers.{trialFrom}
 
 pub record Case : Type 0 where
   pub computed : Reply
