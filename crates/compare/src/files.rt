@@ -93,17 +93,17 @@ fn levels(sum: u64, slice: &[u16]) -> u64 {
 fn reading(sum: u64, file: &[u8]) -> u64 {
     let mut powers = [7u16; 64];
     let mut forces = [8u16; 64];
-    let answer = trial::read(file, &mut powers, &mut forces);
+    let answer = trial_reader::read(file, &mut powers, &mut forces);
     let s = levels(levels(sum, &powers), &forces);
     match answer {
-        trial::ReadTrial::Content(content) => {
+        trial_reader::ReadTrial::Content(content) => {
             let s = mixed(
                 mixed(mixed(s, content.degree as u64), content.f as u64),
                 content.g as u64,
             );
             mixed(mixed(s, content.name_at as u64), content.size as u64)
         }
-        trial::ReadTrial::Refused(refusal) => mixed(s, refusal.number() as u64),
+        trial_reader::ReadTrial::Refused(refusal) => mixed(s, refusal.number() as u64),
     }
 }
 

@@ -1,7 +1,7 @@
 // Trial files, for C.
-use trial::ReadTrial;
-use trial::Written;
-ghost use Rattle.trial.specs.Answers.{trialFrom};
+use trial_reader::ReadTrial;
+use trial_writer::Written;
+ghost use Rattle.trial.specs.Trial.{trialFrom};
 ghost use Rattle.console.specs.Records.{TrialRead, TrialWritten};
 
 // Reads a trial file, with its levels into slices of at least 64 numbers. The name is so many bytes of the file from an offset on.
@@ -22,7 +22,7 @@ pub extern "C" fn dw_read(
         (now (powers .exit)) (now (forces .exit))
         (now (degree .exit)) (now (f .exit)) (now (g .exit)) (now (name .exit)) (now (size .exit)) r ⌝ }
 {
-    let answer = trial::read(file, powers, forces);
+    let answer = trial_reader::read(file, powers, forces);
     match answer {
         ReadTrial::Refused(refusal) => refusal.number(),
         ReadTrial::Content(content) => {
@@ -52,7 +52,7 @@ pub extern "C" fn dw_write(
         ⌜ TrialWritten (trialFrom n f g (now (powers .entry)) (now (forces .entry)) (now (name .entry)))
         (now (out .entry)) (now (size .entry)) (now (out .exit)) (now (size .exit)) r ⌝ }
 {
-    let answer = trial::write(n, f, g, powers, forces, name, out);
+    let answer = trial_writer::write(n, f, g, powers, forces, name, out);
     match answer {
         Written::Refused(refusal) => refusal.number(),
         Written::Length(length) => {

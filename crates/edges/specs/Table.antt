@@ -12,9 +12,8 @@ use Rattle.positions.specs.Replies.{positionReply}
 use Rattle.squares.specs.Replies.{siteReply}
 use Rattle.walk.specs.declared.Walk.{Walk}
 use Rattle.walk.specs.Walks.{startReply, started, lookReply, afterDraw}
-use Rattle.trial.specs.Trial.{Trial}
+use Rattle.trial.specs.Trial.{Trial, trialFrom}
 use Rattle.trial.specs.Replies.{read, readReply, levelsAfter, writeReply, fileAfter}
-use Rattle.trial.specs.Answers.{trialFrom}
 
 pub record Case : Type 0 where
   pub computed : Reply

@@ -7,8 +7,8 @@ use poly::Degree;
 use positions::Place;
 use reply::Refusal;
 use squares::Symbols;
-use trial::ReadTrial;
-use trial::Written;
+use trial_reader::ReadTrial;
+use trial_writer::Written;
 use walk::Change;
 use walk::Next;
 use walk::Walk;
@@ -161,7 +161,7 @@ fn read(file: &[u8]) {
     let mut powers = [9u16; 64];
     let mut forces = [9u16; 64];
     text(b"read:");
-    match trial::read(file, &mut powers, &mut forces) {
+    match trial_reader::read(file, &mut powers, &mut forces) {
         ReadTrial::Content(content) => {
             number(content.degree as u64);
             number(content.f as u64);
@@ -183,7 +183,7 @@ fn write() {
     let forces = [200u16, 220, 240, 260];
     let mut out = [9u8; 19];
     text(b"write:");
-    match trial::write(2, 7, 5, &powers, &forces, b"A", &mut out) {
+    match trial_writer::write(2, 7, 5, &powers, &forces, b"A", &mut out) {
         Written::Length(size) => number(size as u64),
         Written::Refused(refusal) => refused(refusal),
     }

@@ -5,10 +5,11 @@ use mathlib.Core.List.{[], _∷_, _++_}
 use lib.ListN.{length}
 use borrow.Author.Tests.{le-ltb}
 use Rattle.reply.specs.Reply.{served}
+use Rattle.reply.proofs.Order.{NoneApplies, none-applies, none-refuses}
 use Rattle.trial.specs.Trial.{encode}
 use Rattle.trial.specs.Replies.{contentCauses, roomCauses, writeReply}
 use Rattle.trial.specs.Claims.{AgainClaim, BackClaim}
-use Rattle.trial.proofs.Parser.{Clear, clear-append, clear-left, clear-unless, unless-clear}
+use Rattle.trial.proofs.Parser.{clear-append, clear-left}
 use Rattle.trial.proofs.Trial.{trial-back, trial-same}
 
 pub written-again : AgainClaim
@@ -16,15 +17,15 @@ unfolding writeReply
 written-again file t rest below e out room =
     let a = trial-same file below e in
     let fits : length (encode t) ≤ length out = rw (a .same) room in
-    let room-clear : Clear (roomCauses (length out) (length (encode t))) = (le-ltb (length out) (length (encode t)) fits, tt) in
+    let room-clear : NoneApplies (roomCauses (length out) (length (encode t))) = (le-ltb (length out) (length (encode t)) fits, tt) in
     let clear = clear-append (contentCauses t) (roomCauses (length out) (length (encode t))) (a .clear) room-clear in
     let reply : writeReply t (length out) ≡ served (length (encode t) ∷ []) =
-    unless-clear (contentCauses t ++ roomCauses (length out) (length (encode t))) (served (length (encode t) ∷ [])) clear in
+    none-refuses (contentCauses t ++ roomCauses (length out) (length (encode t))) (served (length (encode t) ∷ [])) clear in
     record { reply = rw (← a .same) reply; bytes = rw (reply, a .same) }
 
 pub read-back : BackClaim
 unfolding writeReply
 read-back t room values low-powers low-forces e =
     let room-causes = roomCauses room (length (encode t)) in
-    let clear = clear-unless (contentCauses t ++ room-causes) (served (length (encode t) ∷ [])) e in
+    let clear = none-applies (contentCauses t ++ room-causes) (length (encode t) ∷ []) values e in
     trial-back t low-powers low-forces (clear-left (contentCauses t) room-causes clear)

@@ -7,10 +7,11 @@ use mathlib.Core.List.{List, [], _∷_, _++_, reverseAux, append-assoc}
 use native.Mathlib.Omega.{arith}
 use lib.ListN.{length}
 use borrow.Author.Tests.{le-ltb, ltb-false}
+use Rattle.reply.proofs.Order.{NoneApplies}
 use Rattle.trial.specs.Parser.{parsed}
 use Rattle.trial.specs.Number.{AllBelow, encodeNumber, encodeNumbers}
 use Rattle.trial.specs.Levels.{outOfOrder, anyOutOfOrder, levelCauses, parseLevels}
-use Rattle.trial.proofs.Parser.{or-false, Clear}
+use Rattle.trial.proofs.Parser.{or-false}
 use Rattle.trial.proofs.Field.{field-back, with-field}
 
 pub levels-back : (levels before rest : List ℕ) → AllBelow 65536 levels → anyOutOfOrder before levels ≡ false
@@ -19,7 +20,7 @@ levels-back [] before rest below ordered = refl
 levels-back (level ∷ levels) before rest below ordered =
     let o = or-false (outOfOrder before level) _ ordered in
     let b = below 0 in
-    let clear : Clear (levelCauses before level) = (le-ltb 65535 level (omega arith), (o .0, tt)) in
+    let clear : NoneApplies (levelCauses before level) = (le-ltb 65535 level (omega arith), (o .0, tt)) in
     rw (append-assoc, field-back (levelCauses before) level (encodeNumbers levels ++ rest) (omega arith) clear)
     (levels-back levels (level ∷ before) rest (λ i. below (suc i)) (o .1))
 
@@ -40,7 +41,7 @@ levels-same (suc count) before bytes {levels} {rest} below e =
     with-field (levelCauses before) (λ level. parseLevels count (level ∷ before)) bytes below e λ level bytes′ clear same below′ e′.
     behind level bytes′ clear same (levels-same count (level ∷ before) bytes′ below′ e′)
   where
-    behind : (level : ℕ) (bytes′ : List ℕ) → Clear (levelCauses before level) → encodeNumber level ++ bytes′ ≡ bytes
+    behind : (level : ℕ) (bytes′ : List ℕ) → NoneApplies (levelCauses before level) → encodeNumber level ++ bytes′ ≡ bytes
         → LevelsRead count (level ∷ before) bytes′ levels rest → LevelsRead (suc count) before bytes levels rest
     behind level bytes′ clear same t =
         record {

@@ -1,11 +1,12 @@
--- What a parse that succeeds tells of its steps: each step parsed, and no cause applied. And causes that do not apply, in the
--- parsers' words and in those of replies.
+-- What a parse that succeeds tells of its steps: each step parsed, and no cause applied. And causes that do not apply, or that a reply
+-- is refused for, in the parsers' words.
 use mathlib.Core.Path.{_≡_, refl, _∙_}
 use Prim.Native.Nat.{ℕ}
 use mathlib.Core.Bool.{Bool, true, false, _||_}
 use mathlib.Core.List.{List, [], _∷_, _++_}
 use native.Mathlib.Omega.{arith}
-use Rattle.reply.specs.Reply.{Reply, served, refused, Cause, _gives_, unless}
+use Rattle.reply.specs.Reply.{served, refused, Cause, _gives_, unless}
+use Rattle.reply.proofs.Order.{NoneApplies}
 use Rattle.trial.specs.Parser.{Parsed, parsed, failed, Parser, pure, resume, _>>=_, barring, checked}
 
 pub failed-not-parsed : {A : Type 0} {number : ℕ} {value : A} {rest : List ℕ} → failed number ≡ parsed value rest → ⊥
@@ -26,24 +27,20 @@ pub or-false : (a b : Bool) → (a || b) ≡ false → (a ≡ false) × (b ≡ f
 or-false true b e = (e, cc)
 or-false false b e = (refl, e)
 
--- No cause applies.
-abbrev pub Clear : List Cause → Type 0
-Clear [] = Unit
-Clear ((applies gives number) ∷ causes) = (applies ≡ false) × Clear causes
-
-pub clear-append : (these those : List Cause) → Clear these → Clear those → Clear (these ++ those)
+-- No cause of two lists applies.
+pub clear-append : (these those : List Cause) → NoneApplies these → NoneApplies those → NoneApplies (these ++ those)
 clear-append [] those a b = b
 clear-append ((applies gives number) ∷ these) those a b = (a .0, clear-append these those (a .1) b)
 
-pub clear-left : (these those : List Cause) → Clear (these ++ those) → Clear these
+pub clear-left : (these those : List Cause) → NoneApplies (these ++ those) → NoneApplies these
 clear-left [] those c = tt
 clear-left ((applies gives number) ∷ these) those c = (c .0, clear-left these those (c .1))
 
-pub clear-right : (these those : List Cause) → Clear (these ++ those) → Clear those
+pub clear-right : (these those : List Cause) → NoneApplies (these ++ those) → NoneApplies those
 clear-right [] those c = c
 clear-right ((applies gives number) ∷ these) those c = clear-right these those (c .1)
 
-pub barring-clear : {A : Type 0} (causes : List Cause) (parser : Parser A) (bytes : List ℕ) → Clear causes
+pub barring-clear : {A : Type 0} (causes : List Cause) (parser : Parser A) (bytes : List ℕ) → NoneApplies causes
     → barring causes parser bytes ≡ parser bytes
 barring-clear [] parser bytes c = refl
 barring-clear ((true gives number) ∷ causes) parser bytes c = cc
@@ -51,24 +48,14 @@ barring-clear ((false gives number) ∷ causes) parser bytes c = barring-clear c
 
 -- No cause applied, and the parser parsed.
 pub barred : {A : Type 0} (causes : List Cause) (parser : Parser A) (bytes : List ℕ) {value : A} {rest : List ℕ}
-    → barring causes parser bytes ≡ parsed value rest → Clear causes × (parser bytes ≡ parsed value rest)
+    → barring causes parser bytes ≡ parsed value rest → NoneApplies causes × (parser bytes ≡ parsed value rest)
 barred [] parser bytes e = (tt, e)
 barred ((true gives number) ∷ causes) parser bytes e = absurd (failed-not-parsed e)
 barred ((false gives number) ∷ causes) parser bytes e =
     let b = barred causes parser bytes e in ((refl, b .0), b .1)
 
-pub unless-clear : (causes : List Cause) (reply : Reply) → Clear causes → unless causes reply ≡ reply
-unless-clear [] reply c = refl
-unless-clear ((true gives number) ∷ causes) reply c = cc
-unless-clear ((false gives number) ∷ causes) reply c = unless-clear causes reply (c .1)
-
-pub clear-unless : (causes : List Cause) (reply : Reply) {values : List ℕ} → unless causes reply ≡ served values → Clear causes
-clear-unless [] reply e = tt
-clear-unless ((true gives number) ∷ causes) reply e = let z : _≡_ {A = ℕ} 0 1 = cc in absurd (omega arith)
-clear-unless ((false gives number) ∷ causes) reply e = (refl, clear-unless causes reply e)
-
 pub checked-parsed : {A : Type 0} (parser : Parser A) (causes : A → List Cause) (bytes : List ℕ) {value : A} {rest : List ℕ}
-    → checked parser causes bytes ≡ parsed value rest → Clear (causes value) × (parser bytes ≡ parsed value rest)
+    → checked parser causes bytes ≡ parsed value rest → NoneApplies (causes value) × (parser bytes ≡ parsed value rest)
 checked-parsed parser causes bytes {value} e =
     with-parsed parser (λ a. barring (causes a) (pure a)) bytes e λ a rest e₁ e₂.
     let b = barred (causes a) (pure a) rest e₂ in
@@ -76,7 +63,7 @@ checked-parsed parser causes bytes {value} e =
     (rw same at (b .0), cc (b .1))
 
 pub parsed-checked : {A : Type 0} (parser : Parser A) (causes : A → List Cause) (bytes : List ℕ) {value : A} {rest : List ℕ}
-    → parser bytes ≡ parsed value rest → Clear (causes value) → checked parser causes bytes ≡ parsed value rest
+    → parser bytes ≡ parsed value rest → NoneApplies (causes value) → checked parser causes bytes ≡ parsed value rest
 parsed-checked parser causes bytes {value} {rest} e c = rw e (barring-clear (causes value) (pure value) rest c)
 
 -- What a reply is refused for, a parser is.
@@ -109,25 +96,3 @@ checked-twice {A} parser these those bytes = go (parser bytes)
     go (parsed a rest) =
         resume-barring (these a) a (λ a. barring (those a) (pure a)) rest ∙ barring-append (these a) (those a) (pure a) rest
     go (failed number) = refl
-
--- Causes one after the other: the first list refuses, or else the second decides.
-unless-append : (these those : List Cause) (reply : Reply) → unless (these ++ those) reply ≡ unless these (unless those reply)
-unless-append [] those reply = refl
-unless-append ((true gives number) ∷ these) those reply = refl
-unless-append ((false gives number) ∷ these) those reply = unless-append these those reply
-
-refused-unless : (these : List Cause) (values : List ℕ) (reply : Reply) {number : ℕ} → unless these (served values) ≡ refused number
-    → unless these reply ≡ refused number
-refused-unless [] values reply e = let z : _≡_ {A = ℕ} 0 1 = cc in absurd (omega arith)
-refused-unless ((true gives number) ∷ these) values reply e = e
-refused-unless ((false gives number) ∷ these) values reply e = refused-unless these values reply e
-
-pub refused-first : (these those : List Cause) (values : List ℕ) (reply : Reply) {number : ℕ}
-    → unless these (served values) ≡ refused number
-    → unless (these ++ those) reply ≡ refused number
-refused-first these those values reply e = unless-append these those reply ∙ refused-unless these values (unless those reply) e
-
-pub passed-first : (these those : List Cause) (values values′ : List ℕ) (reply : Reply) → unless these (served values) ≡ served values′
-    → unless (these ++ those) reply ≡ unless those reply
-passed-first these those values values′ reply e =
-    unless-append these those reply ∙ unless-clear these (unless those reply) (clear-unless these (served values) e)

@@ -11,36 +11,37 @@ use lib.Pow.{pow-mono}
 use lib.Dec.{ltb, leb, eqb}
 use borrow.Author.Tests.{le-ltb, ltb-false, leb-false, eqb-true, eq-eqb, not-false}
 use Rattle.reply.specs.Reply.{_gives_}
+use Rattle.reply.proofs.Order.{NoneApplies}
 use Rattle.poly.specs.Causes.{offDegree, codeCauses}
+use Rattle.poly.proofs.Ranges.{within}
 use Rattle.trial.specs.Parser.{parsed, pure, _>>=_}
-use Rattle.trial.specs.Number.{AllBelow, encodeNumber, encodeNumbers, number, field}
+use Rattle.trial.specs.Number.{AllBelow, encodeNumber, encodeNumbers}
 use Rattle.trial.specs.Levels.{disordered, parseLevels}
 use Rattle.trial.specs.Trial.{Head, Trial, version, encodeHead, encodeBody, encode, versionCauses, degreeCauses, pairCauses}
 use Rattle.trial.specs.Trial.{headCauses, sizeCauses, textCauses, anyUnprintable, parseCodes, parseHead, parseText, parseName}
 use Rattle.trial.specs.Trial.{parseEnd, parseBody, parse}
 use Rattle.trial.specs.Replies.{nameCauses, bodyCauses, contentCauses}
-use Rattle.trial.proofs.Parser.{or-false, Clear, checked-parsed, clear-append, clear-left, clear-right, barred, with-parsed}
-use Rattle.trial.proofs.Bounds.{not-outside}
+use Rattle.trial.proofs.Parser.{or-false, clear-append, clear-left, clear-right, barred, with-parsed}
 use Rattle.trial.proofs.Field.{field-back, below-rest, with-field}
 use Rattle.trial.proofs.Levels.{levels-back, levels-same}
 
 -- A code of degree n, 6 at most, fits a number.
-code-fits : (n code : ℕ) → n ≤ 6 → Clear (codeCauses n code) → code ≤ 4294967295
+code-fits : (n code : ℕ) → n ≤ 6 → NoneApplies (codeCauses n code) → code ≤ 4294967295
 unfolding codeCauses offDegree
 code-fits n code h clear =
     let off = or-false (ltb code (2 ^ n)) (leb (2 ^ suc n) code) (clear .0) in
     let below : code < 2 ^ suc n = leb-false (2 ^ suc n) code (off .1) in
     omega (arith, below, pow-mono {i = suc n} {j = 7} (omega arith))
 
-head-back : (head : Head) (rest : List ℕ) → Clear (headCauses head) → parseHead (encodeHead head ++ rest) ≡ parsed head rest
+head-back : (head : Head) (rest : List ℕ) → NoneApplies (headCauses head) → parseHead (encodeHead head ++ rest) ≡ parsed head rest
 unfolding encodeHead parseHead parseCodes codeCauses
 head-back head rest clear =
     let n : ℕ = head .degree in
     let f : ℕ = head .f in
     let g : ℕ = head .g in
-    let low : n ≤ 6 = not-outside 2 6 n (clear .0) .1 in
-    let cf : Clear (codeCauses n f) = (clear .1 .0, (clear .1 .1 .0, tt)) in
-    let cg : Clear (pairCauses n f g) = clear .1 .1 .1 in
+    let low : n ≤ 6 = within 2 6 (clear .0) .1 in
+    let cf : NoneApplies (codeCauses n f) = (clear .1 .0, (clear .1 .1 .0, tt)) in
+    let cg : NoneApplies (pairCauses n f g) = clear .1 .1 .1 in
     let g-fits : g ≤ 4294967295 = code-fits n g low (cg .0, (cg .1 .0, tt)) in
     simp append-assoc
     (rw (
@@ -50,19 +51,8 @@ head-back head rest clear =
       field-back (pairCauses n f) g rest g-fits cg,
     ))
 
--- A head that was read has a degree of 6 at most.
-pub head-degree : (bytes : List ℕ) {head : Head} {rest : List ℕ} → parseHead bytes ≡ parsed head rest → head .degree ≤ 6
-unfolding parseHead parseCodes
-head-degree bytes {head} e =
-    with-parsed (field versionCauses) _ bytes e λ v r₁ p₁ e₁.
-    with-parsed (field degreeCauses) _ r₁ e₁ λ n r₂ p₂ e₂.
-    with-parsed (field (codeCauses n)) _ r₂ e₂ λ f r₃ p₃ e₃.
-    with-parsed (field (pairCauses n f)) _ r₃ e₃ λ g r₄ p₄ e₄.
-    let head-is : head ≡ record { degree = n; f = f; g = g } = cc in
-    rw head-is (not-outside 2 6 n (checked-parsed number degreeCauses r₁ p₂ .0 .0) .1)
-
 record HeadRead (bytes : List ℕ) (head : Head) (rest : List ℕ) : Type 0 where
-  clear : Clear (headCauses head)
+  clear : NoneApplies (headCauses head)
   same : encodeHead head ++ rest ≡ bytes
 
 head-same : (bytes : List ℕ) {head : Head} {rest : List ℕ} → AllBelow 256 bytes → parseHead bytes ≡ parsed head rest
@@ -82,7 +72,7 @@ text-back : (name : List ℕ) → anyUnprintable name ≡ false → parseText (l
 unfolding parseText
 text-back name printable = rw (le-ltb (length name) (length name) (omega arith), take-length, drop-length, printable)
 
-last-back : (name : List ℕ) → Clear (nameCauses name) → (parseName >>= parseEnd) (encodeNumber (length name) ++ name) ≡ parsed name []
+last-back : (name : List ℕ) → NoneApplies (nameCauses name) → (parseName >>= parseEnd) (encodeNumber (length name) ++ name) ≡ parsed name []
 unfolding parseName parseEnd
 last-back name clear =
     let short : length name ≤ 40 = ltb-false 40 (length name) (clear .0) in
@@ -93,7 +83,7 @@ empty [] e = refl
 empty (b ∷ bytes) e = absurd (omega (arith, ltb-false 0 (length (b ∷ bytes)) e))
 
 record LastRead (bytes name : List ℕ) : Type 0 where
-  clear : Clear (nameCauses name)
+  clear : NoneApplies (nameCauses name)
   same : encodeNumber (length name) ++ name ≡ bytes
 
 last-same : (bytes : List ℕ) {name rest : List ℕ} → AllBelow 256 bytes → (parseName >>= parseEnd) bytes ≡ parsed name rest
@@ -120,7 +110,7 @@ list-back count levels rest size low ordered =
     rw count-is at (levels-back levels [] rest low ordered)
 
 -- What the writer accepts is read back.
-pub trial-back : (t : Trial) → AllBelow 65536 (t .powers) → AllBelow 65536 (t .forces) → Clear (contentCauses t)
+pub trial-back : (t : Trial) → AllBelow 65536 (t .powers) → AllBelow 65536 (t .forces) → NoneApplies (contentCauses t)
     → parse (encode t) ≡ parsed t []
 unfolding contentCauses encode encodeBody parse parseBody
 trial-back t low-powers low-forces clear =
@@ -154,7 +144,7 @@ list-same count bytes {levels} {rest} below e =
 pub record Accepted (file : List ℕ) (t : Trial) : Type 0 where
   pub low-powers : AllBelow 65536 (t .powers)
   pub low-forces : AllBelow 65536 (t .forces)
-  pub clear : Clear (contentCauses t)
+  pub clear : NoneApplies (contentCauses t)
   pub same : encode t ≡ file
 
 pub trial-same : (file : List ℕ) {t : Trial} {rest : List ℕ} → AllBelow 256 file → parse file ≡ parsed t rest → Accepted file t

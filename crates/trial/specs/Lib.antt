@@ -3,6 +3,4 @@ pub mod Number
 pub mod Levels
 pub mod Trial
 pub mod Replies
-pub mod Answers
-pub mod Inner
 pub mod Claims

@@ -23,6 +23,13 @@ pub record Trial : Type 0 where
   pub forces : List ℕ
   pub name : List ℕ
 
+-- A content from its parts, as a call passes them.
+abbrev pub headFrom : ℕ → ℕ → ℕ → Head
+headFrom n f g = record { degree = n; f = f; g = g }
+
+abbrev pub trialFrom : ℕ → ℕ → ℕ → List ℕ → List ℕ → List ℕ → Trial
+trialFrom n f g powers forces name = record { head = headFrom n f g; powers = powers; forces = forces; name = name }
+
 abbrev pub version : ℕ
 version = 1
 

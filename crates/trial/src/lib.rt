@@ -1,16 +1,22 @@
-// The trial file (document 01, "Trial file"): its reader and its writer.
-mod fields;
-mod lists;
-mod names;
-mod numbers;
-mod reader;
-mod writer;
+// The format of trial files (document 01, "Trial file"), and the one test that its reader and its writer share.
+ghost use mathlib.Core.Path.{_≡_};
+ghost use mathlib.Core.Bool.{not};
+ghost use Rattle.trial.specs.Trial.{anyUnprintable};
 
-pub use reader::Content;
-pub use reader::ReadTrial;
-pub use reader::Trial;
-pub use reader::name_part;
-pub use reader::open;
-pub use reader::read;
-pub use writer::Written;
-pub use writer::write;
+// Whether all the bytes are from 32 to 126, as those of a name are.
+pub fn printable(bytes: &[u8]) -> bool
+    ensures { λ r. ⌜ r ≡ not (anyUnprintable (now (bytes .entry))) ⌝ }
+{
+    let mut i: usize = 0;
+    while i < bytes.len() {
+        let byte = bytes[i];
+        if byte < 32 {
+            return false;
+        }
+        if 126 < byte {
+            return false;
+        }
+        i += 1;
+    }
+    true
+}

@@ -1,7 +1,7 @@
 -- `dw_read` meets its contract: it passes on what the library answers.
 use mathlib.Core.Path.{sym, ap, _∙_}
 use borrow.Author.Needs.{needs}
-use Rattle.trial.specs.Answers.{readTrialReply, namePart}
+use Rattle.trial_reader.specs.Answers.{readTrialReply, namePart}
 use Rattle.console.proofs.Told.{told, returned, holds, pointed}
 use Rattle.console.proofs.files.dw_read.Statement.{statement}
 use Rattle.console.proofs.files.dw_read.Tie as tie

@@ -1,7 +1,7 @@
 -- `dw_write` meets its contract: it passes on what the library answers.
 use mathlib.Core.Path.{_∙_}
 use borrow.Author.Needs.{needs}
-use Rattle.trial.specs.Answers.{writtenReply}
+use Rattle.trial_writer.specs.Answers.{writtenReply}
 use Rattle.console.proofs.Told.{told, returned, holds}
 use Rattle.console.proofs.files.dw_write.Statement.{statement}
 use Rattle.console.proofs.files.dw_write.Tie as tie

@@ -1,0 +1,6 @@
+pub mod Groups
+pub mod Told
+pub mod Passes
+pub mod Text
+pub mod Part
+pub mod Reading

@@ -1,0 +1,65 @@
+-- `read_head` meets its contract: each field hands the position behind it to the next.
+use mathlib.Core.Path.{_≡_}
+use lib.ListN.{drop}
+use Rattle.trial.specs.Parser.{parsed}
+use Rattle.trial.specs.Number.{field}
+use Rattle.trial.specs.Trial.{versionCauses, degreeCauses, parseHead}
+use Rattle.trial_reader.proofs.Told.{value-told, refusal-told}
+use borrow.Author.Needs.{needs}
+use Rattle.trial_reader.proofs.fields.read_head.Statement.{statement}
+use Rattle.trial_reader.proofs.fields.read_head.Tie as tie
+
+-- What the field of the version gave.
+version-told : (c : tie.After-at) →
+    let file = c .before .before .before .before .args .file .now in
+    let version = c .at .given .0 in
+    field versionCauses file ≡ parsed (version .0) (drop (version .1 .0) file)
+version-told c =
+    value-told (field versionCauses) (c .before .before .before .before .args .file .now) 0 (c .before .before .version-field .ensures)
+    (c .at .given .1)
+
+returns : tie.Need-returns
+unfolding parseHead
+returns c =
+    let file = c .before .before .before .before .before .args .file .now in
+    let read = c .before .before .before .version-field .ensures in
+    record { says = rw (refusal-told (field versionCauses) file 0 read (c .before .why .given .1)); inside = tt }
+
+returns-2 : tie.Need-returns-2
+unfolding parseHead
+returns-2 c =
+    let file = c .before .before .before .before .before .before .before .before .before .args .file .now in
+    let at = c .before .before .before .before .before .at .given .0 .1 .0 in
+    let refusal =
+    refusal-told (field degreeCauses) file at (c .before .before .before .degree-field .ensures) (c .before .why2 .given .1) in
+    record { says = rw (version-told (c .before .before .before .before .before), refusal); inside = tt }
+
+returns-3 : tie.Need-returns-3
+unfolding parseHead
+returns-3 c =
+    let file = c .before .before .before .before .before .before .before .before .before .before .args .file .now in
+    let at = c .before .before .before .before .before .before .at .given .0 .1 .0 in
+    let degree =
+    value-told (field degreeCauses) file at (c .before .before .before .before .degree-field .ensures)
+    (c .before .before .degree .given .1) in
+    record {
+      says =
+          rw (version-told (c .before .before .before .before .before .before), degree) (c .read-codes .ensures .says);
+      inside
+          = c .read-codes .ensures .inside;
+    }
+
+pub read-head-spec : {M : Type 1} → statement M
+read-head-spec =
+    tie.close
+    (tie.spec
+    (λ c κs. search needs)
+    (λ c. search needs)
+    (λ c. search needs)
+    (λ c κs. search needs)
+    (λ c. search needs)
+    (λ c. search needs)
+    (λ c κs. search needs)
+    returns
+    returns-2
+    returns-3)

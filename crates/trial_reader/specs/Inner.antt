@@ -1,0 +1,111 @@
+-- Only contracts of functions inside the crate use these definitions: their answers in the words of the parser, with a position of the file
+-- standing for the bytes from there on.
+use mathlib.Core.Path.{_≡_}
+use Prim.Native.Nat.{ℕ, _+_, _≤_}
+use mathlib.Core.List.{List, []}
+use lib.ListN.{length, take, drop}
+use Rattle.reply.specs.Numbers.{numberOf}
+use Rattle.trial_reader.specs.declared.numbers.ReadNumber.{ReadNumber}
+use Rattle.trial_reader.specs.declared.numbers.ReadNumber.the-variants.{Value, Refused}
+use Rattle.trial_reader.specs.declared.lists.Behind.{Behind}
+use Rattle.trial_reader.specs.declared.lists.Behind.the-variants.{At, Refused as Impassable}
+use Rattle.trial_reader.specs.declared.fields.Head.{Head as CodeHead}
+use Rattle.trial_reader.specs.declared.fields.ReadHead.{ReadHead}
+use Rattle.trial_reader.specs.declared.fields.ReadHead.the-variants.{Found, Refused as Unread}
+use Rattle.trial_reader.specs.declared.names.ReadName.{ReadName}
+use Rattle.trial_reader.specs.declared.names.ReadName.the-variants.{Found as FoundName, Refused as Nameless}
+use Rattle.trial_reader.specs.declared.reader.Layout.{Layout}
+use Rattle.trial_reader.specs.declared.reader.Verdict.{Verdict}
+use Rattle.trial_reader.specs.declared.reader.Verdict.the-variants.{Accepted, Refused as Unaccepted}
+use Rattle.trial.specs.Parser.{Parsed, parsed, failed, Parser, _>>=_, checked}
+use Rattle.trial.specs.Number.{above, parseGroups, ceilingCauses}
+use Rattle.trial.specs.Levels.{parseLevels}
+use Rattle.trial.specs.Trial.{Head, Trial, parseName, parseEnd}
+
+-- A number and the bytes behind it.
+abbrev pub numberParsed : List ℕ → ReadNumber → Parsed ℕ
+numberParsed file (Value n next) = parsed n (drop next file)
+numberParsed file (Refused why) = failed (numberOf why)
+
+-- The position behind the number is one of the file's.
+abbrev pub NumberInside : List ℕ → ReadNumber → Type 0
+NumberInside file (Value n next) = next ≤ length file
+NumberInside file (Refused why) = Unit
+
+-- The answer is what the parser of a number gives at the position.
+pub record Reads (parser : Parser ℕ) (file : List ℕ) (at : ℕ) (r : ReadNumber) : Type 0 where
+  pub says : numberParsed file r ≡ parser (drop at file)
+  pub inside : NumberInside file r
+
+-- A number behind its first byte, which has the high bit set and the group low.
+abbrev pub parseMore : ℕ → Parser ℕ
+parseMore low = checked (λ bytes. above low (parseGroups 4 bytes)) (ceilingCauses 4294967295)
+
+-- The fields in front of the levels and the bytes behind them.
+abbrev pub headOf : CodeHead → Head
+headOf head = record { degree = head .degree; f = head .f; g = head .g }
+
+abbrev pub headParsed : List ℕ → ReadHead → Parsed Head
+headParsed file (Found head next) = parsed (headOf head) (drop next file)
+headParsed file (Unread why) = failed (numberOf why)
+
+abbrev pub HeadInside : List ℕ → ReadHead → Type 0
+HeadInside file (Found head next) = next ≤ length file
+HeadInside file (Unread why) = Unit
+
+-- The answer is what the parser of a head gives at the position.
+pub record HeadRead (parser : Parser Head) (file : List ℕ) (at : ℕ) (r : ReadHead) : Type 0 where
+  pub says : headParsed file r ≡ parser (drop at file)
+  pub inside : HeadInside file r
+
+-- A list of levels, read to the front of a slice, and the bytes behind it.
+abbrev pub listParsed : List ℕ → ℕ → List ℕ → Behind → Parsed (List ℕ)
+listParsed file count out (At next) = parsed (take count out) (drop next file)
+listParsed file count out (Impassable why) = failed (numberOf why)
+
+abbrev pub ListInside : List ℕ → Behind → Type 0
+ListInside file (At next) = next ≤ length file
+ListInside file (Impassable why) = Unit
+
+-- The answer, with the slice afterwards, is what the parser of so many levels gives at the position.
+pub record ListRead (file : List ℕ) (at count : ℕ) (r : Behind) (out : List ℕ) : Type 0 where
+  pub says : listParsed file count out r ≡ parseLevels count [] (drop at file)
+  pub inside : ListInside file r
+
+-- The name and that nothing stands behind it.
+abbrev pub nameParsed : List ℕ → ReadName → Parsed (List ℕ)
+nameParsed file (FoundName start size) = parsed (take size (drop start file)) []
+nameParsed file (Nameless why) = failed (numberOf why)
+
+-- The name reaches to the end of the file.
+abbrev pub NameInside : List ℕ → ReadName → Type 0
+NameInside file (FoundName start size) = start + size ≡ length file
+NameInside file (Nameless why) = Unit
+
+pub record NameRead (file : List ℕ) (at : ℕ) (r : ReadName) : Type 0 where
+  pub says : nameParsed file r ≡ (parseName >>= parseEnd) (drop at file)
+  pub inside : NameInside file r
+
+-- The content of an accepted file: its lists, as long as the layout says, at the front of two slices, and its name where it says.
+abbrev pub contentOf : List ℕ → List ℕ → List ℕ → Layout → Trial
+contentOf file powers forces layout =
+    record {
+      head = headOf (layout .head);
+      powers = take (layout .count) powers;
+      forces = take (layout .count) forces;
+      name = take (layout .size) (drop (layout .«name_at») file);
+    }
+
+abbrev pub trialParsed : List ℕ → List ℕ → List ℕ → Verdict → Parsed Trial
+trialParsed file powers forces (Accepted layout) = parsed (contentOf file powers forces layout) []
+trialParsed file powers forces (Unaccepted why) = failed (numberOf why)
+
+-- No list is longer than 64, and the name reaches to the end of the file.
+abbrev pub TrialInside : List ℕ → Verdict → Type 0
+TrialInside file (Accepted layout) = (layout .count ≤ 64) × (layout .«name_at» + layout .size ≡ length file)
+TrialInside file (Unaccepted why) = Unit
+
+-- The answer, with both slices afterwards, is what the parser of a content gives at the position.
+pub record Surveys (parser : Parser Trial) (file : List ℕ) (at : ℕ) (r : Verdict) (powers forces : List ℕ) : Type 0 where
+  pub says : trialParsed file powers forces r ≡ parser (drop at file)
+  pub inside : TrialInside file r

@@ -1,0 +1,13 @@
+// The reader of trial files.
+mod fields;
+mod lists;
+mod names;
+mod numbers;
+mod reader;
+
+pub use reader::Content;
+pub use reader::ReadTrial;
+pub use reader::Trial;
+pub use reader::name_part;
+pub use reader::open;
+pub use reader::read;

@@ -1,0 +1,61 @@
+-- What the writer promises, from its decision on the content: refused, too little room, or the bytes put.
+use mathlib.Core.Path.{_≡_, sym, _∙_}
+use Prim.Native.Nat.{ℕ, _+_, _^_, _≤_, _<_}
+use mathlib.Core.List.{List, [], _∷_}
+use mathlib.Core.Bool.{not}
+use native.Mathlib.Nat.{zero-add}
+use native.Mathlib.Omega.{arith}
+use lib.ListN.{length}
+use lib.Seq.{sets-eq}
+use lib.Dec.{eqb}
+use borrow.Author.Tests.{lt-ltb, le-ltb, ltb-false, eqb-true, not-false}
+use Rattle.reply.specs.Numbers.{numberOf}
+use Rattle.reply.specs.Reply.{served, refused, unless}
+use Rattle.reply.proofs.Order.{passed, failed, kept, none-applies}
+use Rattle.reply.specs.declared.Refusal.{Refusal}
+use Rattle.trial_writer.specs.declared.writer.Written.the-variants.{Length, Refused}
+use Rattle.trial.specs.Trial.{Trial, encode, headCauses}
+use Rattle.trial.specs.Replies.{over, bodyCauses, contentCauses, roomCauses, writeReply}
+use Rattle.trial_writer.specs.Inner.{Short, Puts}
+use Rattle.trial_writer.specs.Answers.{WriteDone}
+use Rattle.trial.proofs.Order.{order-few}
+use Rattle.trial.proofs.Parser.{or-false, clear-left, clear-right}
+
+module _ (t : Trial) (out : List ℕ) where
+  pub refused-write : {why : Refusal} → refused (numberOf why) ≡ writeReply t (length out) → WriteDone t out (Refused why) out
+  refused-write e = record { reply = e; after = kept e (over (encode t) out) out }
+
+  pub content-refused : {number : ℕ} → refused number ≡ unless (contentCauses t) (served []) → refused number ≡ writeReply t (length out)
+  unfolding writeReply
+  content-refused e = failed (roomCauses (length out) (length (encode t))) (served (length (encode t) ∷ [])) (contentCauses t) e
+
+  module _ (accepted : served [] ≡ unless (contentCauses t) (served [])) where
+    last-cause : writeReply t (length out) ≡ unless (roomCauses (length out) (length (encode t))) (served (length (encode t) ∷ []))
+    unfolding writeReply
+    last-cause = passed (roomCauses (length out) (length (encode t))) (served (length (encode t) ∷ [])) (contentCauses t) accepted
+
+    pub no-room : length out < length (encode t) → refused 4 ≡ writeReply t (length out)
+    no-room h = rw (last-cause, lt-ltb (length out) (length (encode t)) h)
+
+    pub put-write : {r : ℕ} {out′ : List ℕ} → length (encode t) ≤ length out → Puts out 0 (encode t) r out′
+        → WriteDone t out (Length r) out′
+    put-write h p =
+        let e : writeReply t (length out) ≡ served (length (encode t) ∷ []) = last-cause ∙ rw (le-ltb (length out) (length (encode t)) h) in
+        let room : 0 + length (encode t) ≤ length out = omega arith in
+        record { reply = rw (e, p .next, zero-add); after = rw (e, p .after, sets-eq (encode t) out 0 room, zero-add) }
+
+    pub short : Short (t .powers) (t .forces) (t .name)
+    unfolding contentCauses
+    short =
+        let clear = none-applies (contentCauses t) [] [] (sym accepted) in
+        let order = 2 ^ t .head .degree in
+        let few : order ≤ 64 = order-few (t .head .degree) (clear-left (headCauses (t .head)) (bodyCauses t) clear .0) in
+        let body = clear-right (headCauses (t .head)) (bodyCauses t) clear in
+        let sizes = or-false (not (eqb (length (t .powers)) order)) _ (body .0) in
+        let powers : length (t .powers) ≡ order = eqb-true _ order (not-false _ (sizes .0)) in
+        let forces : length (t .forces) ≡ order = eqb-true _ order (not-false _ (sizes .1)) in
+        record {
+          fewPowers = omega arith;
+          fewForces = omega arith;
+          shortName = ltb-false 40 (length (t .name)) (body .1 .1 .1 .0);
+        }

@@ -1,0 +1,8 @@
+// The writer of trial files.
+mod lists;
+mod names;
+mod numbers;
+mod writer;
+
+pub use writer::Written;
+pub use writer::write;
