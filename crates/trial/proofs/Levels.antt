@@ -8,17 +8,17 @@ use native.Mathlib.Omega.{arith}
 use lib.ListN.{length}
 use borrow.Author.Tests.{le-ltb, ltb-false}
 use Rattle.reply.proofs.Order.{NoneApplies}
+use Rattle.poly.proofs.Ranges.{neither}
 use Rattle.trial.specs.Parser.{parsed}
 use Rattle.trial.specs.Number.{AllBelow, encodeNumber, encodeNumbers}
 use Rattle.trial.specs.Levels.{outOfOrder, anyOutOfOrder, levelCauses, parseLevels}
-use Rattle.trial.proofs.Parser.{or-false}
 use Rattle.trial.proofs.Field.{field-back, with-field}
 
 pub levels-back : (levels before rest : List ℕ) → AllBelow 65536 levels → anyOutOfOrder before levels ≡ false
     → parseLevels (length levels) before (encodeNumbers levels ++ rest) ≡ parsed (reverseAux before levels) rest
 levels-back [] before rest below ordered = refl
 levels-back (level ∷ levels) before rest below ordered =
-    let o = or-false (outOfOrder before level) _ ordered in
+    let o = neither (outOfOrder before level) _ ordered in
     let b = below 0 in
     let clear : NoneApplies (levelCauses before level) = (le-ltb 65535 level (omega arith), (o .0, tt)) in
     rw (append-assoc, field-back (levelCauses before) level (encodeNumbers levels ++ rest) (omega arith) clear)

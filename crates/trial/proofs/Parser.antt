@@ -2,7 +2,7 @@
 -- is refused for, in the parsers' words.
 use mathlib.Core.Path.{_≡_, refl, _∙_}
 use Prim.Native.Nat.{ℕ}
-use mathlib.Core.Bool.{Bool, true, false, _||_}
+use mathlib.Core.Bool.{true, false}
 use mathlib.Core.List.{List, [], _∷_, _++_}
 use native.Mathlib.Omega.{arith}
 use Rattle.reply.specs.Reply.{served, refused, Cause, _gives_, unless}
@@ -22,10 +22,6 @@ with-parsed {A} {B} {C} first next bytes {value} {end} e go = cases (first bytes
     cases : (p : Parsed A) → first bytes ≡ p → resume p next ≡ parsed value end → C
     cases (parsed a rest) e e′ = go a rest e e′
     cases (failed number) e e′ = absurd (failed-not-parsed e′)
-
-pub or-false : (a b : Bool) → (a || b) ≡ false → (a ≡ false) × (b ≡ false)
-or-false true b e = (e, cc)
-or-false false b e = (refl, e)
 
 -- No cause of two lists applies.
 pub clear-append : (these those : List Cause) → NoneApplies these → NoneApplies those → NoneApplies (these ++ those)

@@ -13,7 +13,7 @@ use borrow.Author.Tests.{le-ltb, ltb-false, leb-false, eqb-true, eq-eqb, not-fal
 use Rattle.reply.specs.Reply.{_gives_}
 use Rattle.reply.proofs.Order.{NoneApplies}
 use Rattle.poly.specs.Causes.{offDegree, codeCauses}
-use Rattle.poly.proofs.Ranges.{within}
+use Rattle.poly.proofs.Ranges.{within, neither}
 use Rattle.trial.specs.Parser.{parsed, pure, _>>=_}
 use Rattle.trial.specs.Number.{AllBelow, encodeNumber, encodeNumbers}
 use Rattle.trial.specs.Levels.{disordered, parseLevels}
@@ -21,7 +21,7 @@ use Rattle.trial.specs.Trial.{Head, Trial, version, encodeHead, encodeBo
 use Rattle.trial.specs.Trial.{headCauses, sizeCauses, textCauses, anyUnprintable, parseCodes, parseHead, parseText, parseName}
 use Rattle.trial.specs.Trial.{parseEnd, parseBody, parse}
 use Rattle.trial.specs.Replies.{nameCauses, bodyCauses, contentCauses}
-use Rattle.trial.proofs.Parser.{or-false, clear-append, clear-left, clear-right, barred, with-parsed}
+use Rattle.trial.proofs.Parser.{clear-append, clear-left, clear-right, barred, with-parsed}
 use Rattle.trial.proofs.Field.{field-back, below-rest, with-field}
 use Rattle.trial.proofs.Levels.{levels-back, levels-same}
 
@@ -29,7 +29,7 @@ use Rattle.trial.proofs.Levels.{levels-back, levels-same}
 code-fits : (n code : ℕ) → n ≤ 6 → NoneApplies (codeCauses n code) → code ≤ 4294967295
 unfolding codeCauses offDegree
 code-fits n code h clear =
-    let off = or-false (ltb code (2 ^ n)) (leb (2 ^ suc n) code) (clear .0) in
+    let off = neither (ltb code (2 ^ n)) (leb (2 ^ suc n) code) (clear .0) in
     let below : code < 2 ^ suc n = leb-false (2 ^ suc n) code (off .1) in
     omega (arith, below, pow-mono {i = suc n} {j = 7} (omega arith))
 
@@ -117,7 +117,7 @@ trial-back t low-powers low-forces clear =
     let order : ℕ = 2 ^ t .head .degree in
     let name-bytes : List ℕ = encodeNumber (length (t .name)) ++ t .name in
     let body = clear-right (headCauses (t .head)) (bodyCauses t) clear in
-    let sizes = or-false (not (eqb (length (t .powers)) order)) _ (body .0) in
+    let sizes = neither (not (eqb (length (t .powers)) order)) _ (body .0) in
     let forces-bytes : List ℕ = encodeNumbers (t .forces) ++ name-bytes in
     simp append-assoc
     (rw (

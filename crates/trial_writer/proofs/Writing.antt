@@ -13,13 +13,14 @@ use Rattle.reply.specs.Numbers.{numberOf}
 use Rattle.reply.specs.Reply.{served, refused, unless}
 use Rattle.reply.proofs.Order.{passed, failed, kept, none-applies}
 use Rattle.reply.specs.declared.Refusal.{Refusal}
+use Rattle.poly.proofs.Ranges.{neither}
 use Rattle.trial_writer.specs.declared.writer.Written.the-variants.{Length, Refused}
 use Rattle.trial.specs.Trial.{Trial, encode, headCauses}
 use Rattle.trial.specs.Replies.{over, bodyCauses, contentCauses, roomCauses, writeReply}
 use Rattle.trial_writer.specs.Inner.{Short, Puts}
 use Rattle.trial_writer.specs.Answers.{WriteDone}
 use Rattle.trial.proofs.Order.{order-few}
-use Rattle.trial.proofs.Parser.{or-false, clear-left, clear-right}
+use Rattle.trial.proofs.Parser.{clear-left, clear-right}
 
 module _ (t : Trial) (out : List ℕ) where
   pub refused-write : {why : Refusal} → refused (numberOf why) ≡ writeReply t (length out) → WriteDone t out (Refused why) out
@@ -51,7 +52,7 @@ module _ (t : Trial) (out : List ℕ) where
         let order = 2 ^ t .head .degree in
         let few : order ≤ 64 = order-few (t .head .degree) (clear-left (headCauses (t .head)) (bodyCauses t) clear .0) in
         let body = clear-right (headCauses (t .head)) (bodyCauses t) clear in
-        let sizes = or-false (not (eqb (length (t .powers)) order)) _ (body .0) in
+        let sizes = neither (not (eqb (length (t .powers)) order)) _ (body .0) in
         let powers : length (t .powers) ≡ order = eqb-true _ order (not-false _ (sizes .0)) in
         let forces : length (t .forces) ≡ order = eqb-true _ order (not-false _ (sizes .1)) in
         record {
