@@ -11,9 +11,9 @@ use borrow.Author.Tests.{lt-ltb, le-ltb, le-leb, lt-leb, ltb-false, leb-false, e
 use Rattle.poly.specs.Code.{HasDegree}
 use Rattle.poly.specs.Limits.{outside, listLength}
 use Rattle.poly.specs.Replies.{lengthReply}
-use Rattle.reply.specs.Reply.{Cause, served, refused}
+use Rattle.reply.specs.Reply.{Cause, served, refused, unless}
 use Rattle.reply.proofs.Order.{NoneApplies}
-use Rattle.poly.specs.Causes.{offDegree, codeCauses}
+use Rattle.poly.specs.Causes.{degreeCause, offDegree, codeCauses}
 
 module _ (low high : ℕ) {n : ℕ} where
   pub outside-below : n < low → outside low high n ≡ true
@@ -36,6 +36,10 @@ module _ (low high : ℕ) {n : ℕ} where
       go (yes l) d = absurd (true≢false (sym (outside-below l) ∙ e))
       go (no l) (yes h) = absurd (true≢false (sym (outside-above h) ∙ e))
       go (no l) (no h) = (omega arith, omega arith)
+
+-- a degree that has sheets is a degree
+pub sheets-inside : (n : ℕ) → outside 2 6 n ≡ false → outside 1 31 n ≡ false
+sheets-inside n e = let (low, high) = within 2 6 e in inside 1 31 (omega arith) (omega arith)
 
 pub on-degree : {n a : ℕ} → HasDegree 2 n a → offDegree n a ≡ false
 unfolding offDegree
@@ -76,19 +80,28 @@ passed-codes n f g more (df, (of, (dg, (og, rest)))) =
     record { degree-f = has-degree df; odd-f = odd f of; degree-g = has-degree dg; odd-g = odd g og }
 
 -- ---- what the length's reply tells of the degree
-pub length-served : (n : ℕ) {length : ℕ} → served (length ∷ []) ≡ lengthReply n → (outside 1 31 n ≡ false) × (length ≡ listLength n)
-length-served n {length} h = go (outside 1 31 n) refl
+-- ---- a reply that the degree alone refuses
+pub count-served : (n value : ℕ) {x : ℕ} → served (x ∷ []) ≡ unless (degreeCause n ∷ []) (served (value ∷ []))
+    → (outside 1 31 n ≡ false) × (x ≡ value)
+count-served n value {x} h = go (outside 1 31 n) refl
   where
-    go : (b : Bool) → outside 1 31 n ≡ b → (outside 1 31 n ≡ false) × (length ≡ listLength n)
+    go : (b : Bool) → outside 1 31 n ≡ b → (outside 1 31 n ≡ false) × (x ≡ value)
     go true e = absurd (let r = rw e at h in let z : _≡_ {A = ℕ} 0 1 = cc in omega arith)
     go false e = let r = rw e at h in (e, cc)
 
-pub length-refused : (n : ℕ) {k : ℕ} → refused k ≡ lengthReply n → outside 1 31 n ≡ true
-length-refused n {k} h = go (outside 1 31 n) refl
+pub count-refused : (n value : ℕ) {k : ℕ} → refused k ≡ unless (degreeCause n ∷ []) (served (value ∷ []))
+    → (outside 1 31 n ≡ true) × (k ≡ 1)
+count-refused n value {k} h = go (outside 1 31 n) refl
   where
-    go : (b : Bool) → outside 1 31 n ≡ b → outside 1 31 n ≡ true
-    go true e = e
+    go : (b : Bool) → outside 1 31 n ≡ b → (outside 1 31 n ≡ true) × (k ≡ 1)
+    go true e = let r = rw e at h in (e, cc)
     go false e = absurd (let r = rw e at h in let z : _≡_ {A = ℕ} 0 1 = cc in omega arith)
+
+pub length-served : (n : ℕ) {length : ℕ} → served (length ∷ []) ≡ lengthReply n → (outside 1 31 n ≡ false) × (length ≡ listLength n)
+length-served n = count-served n (listLength n)
+
+pub length-refused : (n : ℕ) {k : ℕ} → refused k ≡ lengthReply n → outside 1 31 n ≡ true
+length-refused n e = count-refused n (listLength n) e .0
 
 pub list-length-lt : (n : ℕ) → n ≤ 31 → listLength n < 2 ^ 61
 list-length-lt n h =

@@ -13,13 +13,12 @@ use lib.Pow.{pow-pos}
 use Rattle.poly.proofs.Ring
 use Rattle.poly.proofs.Blocks
 use Rattle.poly.proofs.Binary.{add-xor}
-use Rattle.poly.specs.Code.{digit, add, mul}
+use Rattle.poly.specs.Code.{digit, add}
 use Rattle.squares.specs.Symbols.{number, sum, line, outputCell, symbol}
-use Rattle.squares.specs.Lines.{parity}
+use Rattle.squares.specs.Lines.{atSite, Moved}
 use Rattle.squares.proofs.Codes
 use Rattle.squares.proofs.Places
 use Rattle.squares.proofs.Middle
-use Rattle.squares.proofs.Middle.{middle}
 use Rattle.squares.proofs.Linear
 
 bit-min : (d e : ℕ) → d < 2 → e < 2 → min d e ≡ d * e
@@ -53,6 +52,10 @@ number-equal : (k : ℕ) (h h′ : ℕ → ℕ) → ((i : ℕ) → i < k → h i
 number-equal zero h h′ e = refl
 number-equal (suc k) h h′ e = ap₂ (λ (u v : ℕ). u * 2 + v) (number-equal k h h′ (λ i l. e i (omega arith))) (e k (omega arith))
 
+-- Output cell i: the parity of the ones of a code that meet ones among the 32 cells from cell i on.
+abbrev pub parity : ℕ → ℕ → ℕ → ℕ
+parity code line i = ones (bitAnd code (line / 2 ^ i % 2 ^ 32)) % 2
+
 -- The site's symbol, from a word whose bit i is cell i.
 module _ (n row : ℕ) {f col : ℕ} (word : ℕ) (n-lt : n < 32) (f-lt : f < 2 ^ suc n) (col-lt : col < 2 ^ n)
     (cells : (i : ℕ) → i < n + n → digit 2 word i ≡ digit 2 (row * 2 ^ n + col) (n + n - suc i)) where
@@ -77,9 +80,13 @@ module _ (n row : ℕ) {f col : ℕ} (word : ℕ) (n-lt : n < 32) (f-lt : f < 2 
   unfolding symbol
   symbol-parities = number-equal n (outputCell 2 n f (line 2 n row col)) (parity f word) output-ones
 
--- The symbol at a site given as one number.
-abbrev pub atSite : ℕ → ℕ → ℕ → ℕ
-atSite n f site = symbol 2 n f (site / 2 ^ n) (site % 2 ^ n)
+-- The symbol at a site given as one number, from that number in reverse without the places behind its 2n bits.
+pub site-parities : (n site : ℕ) {f reverse : ℕ} → n < 32 → f < 2 ^ suc n → Moved (λ i. 63 - i) site reverse
+    → atSite n f site ≡ number 2 n (parity f (reverse / 2 ^ (64 - 2 * n)))
+site-parities n site {f} {reverse} n-lt f-lt moved =
+    symbol-parities n (site / 2 ^ n) (reverse / 2 ^ (64 - 2 * n)) n-lt f-lt (mod-lt site (pow-pos n))
+    (λ i l. let same : 63 - ((64 - 2 * n) + i) ≡ n + n - suc i = omega arith in
+    rw (Middle.div-pow 2 reverse (64 - 2 * n) i, div-add-mod' site (2 ^ n), ← same) (moved .bit ((64 - 2 * n) + i) (omega arith)))
 
 -- It is linear in that number.
 pub site-add : (n : ℕ) {f : ℕ} (a b : ℕ) → f < 2 ^ suc n → atSite n f (add 2 a b) ≡ bitXor (atSite n f a) (atSite n f b)
@@ -99,11 +106,3 @@ site-next n m {f} {i} f-lt l =
     let whole : add 2 i (2 ^ m) ≡ 2 ^ m + i =
     Ring.add-comm 2 (le-refl 2) i (2 ^ m) ∙ rw Nat.one-mul at (Blocks.add-parts 2 (le-refl 2) m 1 l) in
     ap (atSite n f) (sym whole) ∙ site-add n i (2 ^ m) f-lt
-
--- At a power of two, it is the middle of the code shifted.
-pub unit-middle : (n m : ℕ) {f : ℕ} → f < 2 ^ suc n → atSite n f (2 ^ m) ≡ middle 2 n (f * 2 ^ m)
-unit-middle n m {f} f-lt =
-    let shift : mul 2 f (2 ^ m) ≡ f * 2 ^ m =
-    rw (Nat.one-mul (2 ^ m), Ring.mul-comm 2 (le-refl 2) f 1, Ring.one-mul 2 (le-refl 2) f) at
-    (Codes.mul-shift-right 2 (le-refl 2) m f 1) in
-    rw (div-add-mod' (2 ^ m) (2 ^ n), shift) at (Middle.symbol-middle 2 (le-refl 2) n (2 ^ m / 2 ^ n) f-lt (mod-lt (2 ^ m) (pow-pos n)))

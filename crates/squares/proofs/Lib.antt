@@ -11,6 +11,5 @@ pub mod Runs
 pub mod Sheets
 pub mod Bytes
 pub mod Served
-pub mod Orders
 pub mod Claims
 pub mod Examples

@@ -3,18 +3,17 @@
 use mathlib.Core.Path.{_≡_, sym, ap₂, _∙_}
 use mathlib.Core.Bool.{false}
 use mathlib.Core.List.{[], _∷_, List}
-use Prim.Native.Nat.{ℕ, _+_, _*_, _^_, _≤_, _<_}
+use Prim.Native.Nat.{ℕ, _+_, _*_, _^_, _<_}
 use native.Mathlib.Nat
 use native.Mathlib.Nat.{le-refl}
 use native.Mathlib.Omega.{arith}
 use lib.Arith.{digits-lt}
 use lib.Dec.{ltb, eqb}
-use borrow.Author.Tests.{eqb-true, not-false, le-ltb, lt-leb}
+use borrow.Author.Tests.{eqb-true, not-false, lt-leb}
 use lib.ListN.{length, drop, getD, List·getD-append}
 use Rattle.reply.specs.Reply.{served, _gives_}
 use Rattle.reply.proofs.Order.{NoneApplies, none-applies, none-refuses}
-use Rattle.poly.specs.Limits.{outside}
-use Rattle.poly.proofs.Ranges.{within, passed-codes}
+use Rattle.poly.proofs.Ranges.{sheets-inside, passed-codes}
 use Rattle.poly.specs.Causes.{codeCauses, commonFactor}
 use Rattle.poly.specs.Coprime.{gcd}
 use Rattle.poly.proofs.Primes.{inverses-2}
@@ -27,12 +26,6 @@ use Rattle.squares.proofs.Latin.{latin}
 use Rattle.squares.proofs.Orthogonal.{orthogonal-coprime}
 use Rattle.squares.proofs.Sheets.{four-pow, byte-at, sheetOf-length}
 
-within-wider : (n : ℕ) → outside 2 6 n ≡ false → outside 1 31 n ≡ false
-unfolding outside
-within-wider n e =
-    let l : (2 ≤ n) × (n ≤ 6) = within 2 6 e in
-    rw (le-ltb n 1 (omega arith), le-ltb 31 n (omega arith))
-
 module _ (n f g : ℕ) (lent : List ℕ) (is-served : sheetReply n f g (length lent) ≡ served []) where
   found : NoneApplies (sheetCauses n f g (length lent))
   unfolding sheetReply
@@ -44,7 +37,7 @@ module _ (n f g : ℕ) (lent : List ℕ) (is-served : sheetReply n f g (length l
   site-served row col hr hc =
       let (degree, (f-degree, (f-constant, (g-degree, (g-constant, rest))))) = found in
       none-refuses (siteCauses n f g row col) _
-      (within-wider n degree, (f-degree, (f-constant, (g-degree, (g-constant, (on-site, tt))))))
+      (sheets-inside n degree, (f-degree, (f-constant, (g-degree, (g-constant, (on-site, tt))))))
     where
       on-site : offSite n row col ≡ false
       on-site = rw (lt-leb (2 ^ n) row hr, lt-leb (2 ^ n) col hc)

@@ -1,16 +1,15 @@
 // The square of a polynomial: the symbols at a site, and the sheet that lays two squares together.
 use poly::Checked;
+use poly::Count;
 use poly::Degree;
 use reply::Refusal;
 ghost use mathlib.Core.Path.{_≡_};
 ghost use Prim.Native.Nat.{suc, _+_, _-_, _*_, _/_, _%_, _^_, _≤_, _<_};
-ghost use mathlib.Core.List.{[], _∷_, _++_};
+ghost use mathlib.Core.List.{_++_};
 ghost use lib.ListN.{length, getD, drop};
-ghost use Rattle.reply.specs.Reply.{served};
-ghost use Rattle.squares.specs.Symbols.{number, symbol};
 ghost use Rattle.squares.specs.Replies.{symbolsReply, siteReply, laidReply, sheetReply, sheetOf, sheetBytes};
 ghost use Rattle.squares.specs.Doubling.{Alternating, Whole, Added};
-ghost use Rattle.squares.specs.Lines.{parity, Moved, exchanged, Lower};
+ghost use Rattle.squares.specs.Lines.{atSite, Moved, exchanged, Lower};
 
 // The symbols of f and of g at a site, or why there are none.
 pub enum Symbols {
@@ -22,34 +21,37 @@ pub enum Symbols {
 pub fn site(n: u32, f: u32, g: u32, row: u32, col: u32) -> Symbols
     ensures { λ r. ⌜ symbolsReply r ≡ siteReply n f g row col ⌝ }
 {
-    if (Degree { n }).outside() {
+    let Count::Is(order) = (Degree { n }).order() else {
         return Symbols::Refused(Refusal::DegreeRange);
-    }
+    };
     let codes = poly::check_pair(n, f, g);
     if let Checked::Refused(refusal) = codes {
         return Symbols::Refused(refusal);
     }
-    let order = 1u64 << n;
     if order <= row as u64 {
         return Symbols::Refused(Refusal::SiteRange);
     }
     if order <= col as u64 {
         return Symbols::Refused(Refusal::SiteRange);
     }
-    let place = row as u64 * order + col as u64;
-    let line = reversed(place) >> (64 - 2 * n);
-    both(n, f, g, line)
+    let both = symbols_at(n, f, g, row as u64 * order + col as u64);
+    Symbols::Both(both.first, both.second)
 }
 
-// Both symbols from a line with cell i as bit i: each output cell is a count of ones modulo 2. The window has cells i to i + 31; a code of
-// degree n keeps those up to cell i + n.
-fn both(n: u32, f: u32, g: u32, line: u64) -> Symbols
-    requires { ⌜ n < 32 ⌝ }
-    ensures { λ r. ⌜ symbolsReply r ≡ served (number 2 n (parity f line) ∷ number 2 n (parity g line) ∷ []) ⌝ }
+struct Both {
+    first: u32,
+    second: u32,
+}
+
+// The one place where symbols are made: those of f and g at the site with this number, row * 2^n + col. The line has cell i as bit i, and
+// each output cell is a count of ones modulo 2. The window has cells i to i + 31; a code of degree n keeps those up to cell i + n.
+fn symbols_at(n: u32, f: u32, g: u32, place: u64) -> Both
+    requires { ⌜ (1 ≤ n) × (n < 32) × (f < 2 ^ suc n) × (g < 2 ^ suc n) ⌝ }
+    ensures { λ r. ⌜ (r .first ≡ atSite n f place) × (r .second ≡ atSite n g place) ⌝ }
 {
+    let mut rest = reversed(place) >> (64 - 2 * n);
     let mut first: u32 = 0;
     let mut second: u32 = 0;
-    let mut rest = line;
     let mut i: u32 = 0;
     while i < n {
         let window = (rest % 4294967296) as u32;
@@ -58,7 +60,7 @@ fn both(n: u32, f: u32, g: u32, line: u64) -> Symbols
         rest = rest / 2;
         i += 1;
     }
-    Symbols::Both(first, second)
+    Both { first, second }
 }
 
 // The 64 bits in reverse, by exchanges of ever wider groups, which the compiler knows as a bit reversal.
@@ -99,8 +101,10 @@ pub fn sheet(n: u32, f: u32, g: u32, out: &mut [u8]) -> Laid
     if let Checked::Refused(refusal) = codes {
         return Laid::Refused(refusal);
     }
-    let order: usize = 1 << n;
-    if out.len() < 2 * (order * order) {
+    let Count::Is(order) = (Degree { n }).order() else {
+        return Laid::Refused(Refusal::SheetDegree);
+    };
+    if (out.len() as u64) < 2 * (order * order) {
         return Laid::Refused(Refusal::SliceLength);
     }
     fill(n, f, g, out);
@@ -110,25 +114,18 @@ pub fn sheet(n: u32, f: u32, g: u32, out: &mut [u8]) -> Laid
 // The sheet, site by site: a symbol is linear in the site's number row * 2^n + col, so that the sites from 2^m to 2^(m+1) - 1 are those
 // before them, each exclusive or the symbols at site 2^m.
 fn fill(n: u32, f: u32, g: u32, out: &mut [u8])
-    requires { ⌜ (n < 7) × (f < 2 ^ suc n) × (g < 2 ^ suc n) × (2 * 4 ^ n ≤ length (now out)) ⌝ }
+    requires { ⌜ (1 ≤ n) × (n < 7) × (f < 2 ^ suc n) × (g < 2 ^ suc n) × (2 * 4 ^ n ≤ length (now out)) ⌝ }
     ensures { λ _. ⌜ now (out .exit) ≡ sheetOf n f g ++ drop (2 * 4 ^ n) (now (out .entry)) ⌝ }
 {
     out[0] = 0;
     out[1] = 0;
     let mut m: u32 = 0;
     while m < 2 * n {
-        let pattern = alternating(unit_symbol(n, f, m), unit_symbol(n, g, m));
+        let unit = symbols_at(n, f, g, 1u64 << m);
+        let pattern = alternating(unit.first as u8, unit.second as u8);
         double(out, 2 << m, &pattern);
         m += 1;
     }
-}
-
-// The symbol at the site 2^m, whose line has a single one: n bits of the code times x^m, from that of x^n on.
-fn unit_symbol(n: u32, code: u32, m: u32) -> u8
-    requires { ⌜ (n < 7) × (code < 2 ^ suc n) × (m < 12) ⌝ }
-    ensures { λ r. ⌜ r ≡ symbol 2 n code (2 ^ m / 2 ^ n) (2 ^ m % 2 ^ n) ⌝ }
-{
-    ((((code as u64) << m) >> n) % (1u64 << n)) as u8
 }
 
 // f, g, f, g, ..

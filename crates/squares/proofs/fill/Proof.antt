@@ -3,19 +3,22 @@
 use mathlib.Core.Logic.{inl, inr}
 use mathlib.Core.Path.{_≡_, refl, sym, ap, _∙_}
 use mathlib.Core.List.{List, _++_}
-use Prim.Native.Nat.{ℕ, zero, suc, _+_, _-_, _*_, _%_, _^_, _≤_, _<_}
-use native.Mathlib.Nat.{pow-suc, zero-add}
+use Prim.Native.Nat.{ℕ, zero, suc, _+_, _-_, _*_, _/_, _%_, _^_, _≤_, _<_}
+use native.Mathlib.Nat.{pow-suc, zero-add, le-refl, mod-lt, lt-of-lt-of-le}
 use native.Mathlib.Decide.{decLt}
 use native.Mathlib.Numerals.{add-one}
 use native.Mathlib.Omega.{arith}
 use borrow.Author.Needs.{needs}
 use lib.Dec.{lit<}
 use lib.ListN.{length, getD, set, drop, length-set, length-append, length-drop, List·getD-append}
-use lib.Pow.{pow-mono, pow-add, shl-exact}
+use lib.Pow.{pow-pos, pow-mono, pow-add, shl-exact}
 use lib.Seq.{getD-set-same, getD-set-other, getD-append-add, getD-drop, ext-getD}
+use Rattle.poly.proofs.Shifts.{one-shl}
 use Rattle.squares.specs.Replies.{sheetOf}
 use Rattle.squares.specs.Doubling.{byTurns, Alternating, Whole, Added}
-use Rattle.squares.proofs.Binary.{atSite, site-zero}
+use Rattle.squares.specs.Lines.{atSite}
+use Rattle.squares.proofs.Binary.{site-zero}
+use Rattle.squares.proofs.Linear.{symbol-lt}
 use Rattle.squares.proofs.Sheets.{square-is, four-pos, sheetOf-length}
 use Rattle.squares.proofs.Bytes.{byteOf, byte-next, byte-is}
 use Rattle.squares.proofs.fill.Statement.{statement}
@@ -98,6 +101,12 @@ finished n f g lent {out} room s =
           ∙ getD-append-add (sheetOf n f g) (drop (2 * 4 ^ n) lent) k 0 ∙ getD-drop (2 * 4 ^ n) lent k 0)
     ]
 
+-- a symbol is a byte
+symbol-byte : (n f place : ℕ) {x : ℕ} → n < 7 → f < 2 ^ suc n → x ≡ atSite n f place → x < 2 ^ 8
+symbol-byte n f place h f-lt e =
+    rw e
+    (lt-of-lt-of-le (symbol-lt 2 (le-refl 2) n f-lt (place / 2 ^ n) (mod-lt place (pow-pos n))) (pow-mono {i = n} {j = 8} (omega arith)))
+
 -- the size that is doubled
 size-is : (m : ℕ) → m < 12 → 2 * 2 ^ m % 2 ^ 64 ≡ 2 * 2 ^ m
 size-is m l = shl-exact {a = 2} 2 m 64 (lit< tt) (omega arith)
@@ -117,10 +126,10 @@ abbrev μ-loop : tie.MeasureT-loop
 μ-loop n f g out₀ m₀ out m = 2 * n - m
 
 room : (s : tie.Start Inv-loop μ-loop) → 1 < length (s .args .out .now)
-room s = omega (arith, four-pos (s .args .n), s .pre .3)
+room s = omega (arith, four-pos (s .args .n), s .pre .4)
 
 few : (c : tie.In-loop Inv-loop μ-loop) → c .before .loop .m < 12
-few c = let taken = c .loop-test .taken in omega arith
+few c = let taken = c .loop-test .taken in omega (arith, c .before .before .before .pre .1)
 
 slice-write-out : tie.Need-slice-write-out Inv-loop μ-loop
 slice-write-out c = omega (arith, room (c .before))
@@ -129,53 +138,65 @@ slice-write-out-2 : tie.Need-slice-write-out-2 Inv-loop μ-loop
 slice-write-out-2 c = rw length-set (room (c .before))
 
 loop-holds : tie.Need-loop-holds Inv-loop μ-loop
-loop-holds c = let s = c .before in (start (s .args .n) (s .pre .1) (s .pre .2) (s .args .out .now) (room s), omega arith)
+loop-holds c = let s = c .before in (start (s .args .n) (s .pre .2) (s .pre .3) (s .args .out .now) (room s), omega arith)
 
 mul-loop : tie.Need-mul-loop Inv-loop μ-loop
-mul-loop c = record { fits = omega arith }
+mul-loop c = record { fits = omega (arith, c .before .before .pre .1) }
 
-unit-symbol-requires : tie.Need-unit-symbol-requires Inv-loop μ-loop
-unit-symbol-requires c κs = let s = c .before .before .before in (s .pre .0, s .pre .1, few c)
+shl-symbols-at : tie.Need-shl-symbols-at Inv-loop μ-loop
+shl-symbols-at c = omega (arith, few c)
 
-unit-symbol-requires-2 : tie.Need-unit-symbol-requires-2 Inv-loop μ-loop
-unit-symbol-requires-2 c κs = let s = c .before .before .before .before in (s .pre .0, s .pre .2, few (c .before))
+symbols-at-requires : tie.Need-symbols-at-requires Inv-loop μ-loop
+symbols-at-requires c κs =
+    let s = c .before .before .before in (s .pre .0, omega (arith, s .pre .1), s .pre .2, s .pre .3)
 
-alternating-requires : tie.Need-alternating-requires Inv-loop μ-loop
-alternating-requires c κs = search needs
+cast-alternating : tie.Need-cast-alternating Inv-loop μ-loop
+cast-alternating c =
+    let s = c .before .before .before .before .before in
+    let place = 1 * 2 ^ c .before .before .before .loop .m % 2 ^ 64 in
+    record { fits = symbol-byte (s .args .n) (s .args .f) place (s .pre .1) (s .pre .2) (c .before .symbols-at .ensures .0) }
+
+cast-alternating-2 : tie.Need-cast-alternating-2 Inv-loop μ-loop
+cast-alternating-2 c =
+    let s = c .before .before .before .before .before .before in
+    let place = 1 * 2 ^ c .before .before .before .before .loop .m % 2 ^ 64 in
+    record { fits = symbol-byte (s .args .n) (s .args .g) place (s .pre .1) (s .pre .3) (c .before .before .symbols-at .ensures .1) }
 
 cast-double : tie.Need-cast-double Inv-loop μ-loop
-cast-double c = record { fits = omega (arith, few (c .before .before .before .before)) }
+cast-double c = record { fits = omega (arith, few (c .before .before .before .before .before)) }
 
 shl-double : tie.Need-shl-double Inv-loop μ-loop
-shl-double c = omega (arith, few (c .before .before .before .before))
+shl-double c = omega (arith, few (c .before .before .before .before .before))
 
 double-requires : tie.Need-double-requires Inv-loop μ-loop
 double-requires c κs =
-    let s = c .before .before .before .before .before .before .before .before in
-    let loop = c .before .before .before .before .before .before .loop in
+    let this = c .before .before .before .before .before .before in
+    let loop = this .before .loop in
+    let s = this .before .before .before in
     let long = loop .inv .0 .long ∙ begun-length (s .args .out .now) in
-    let m-few = few (c .before .before .before .before .before) in
+    let m-few = few this in
     let small : 2 ^ loop .m ≤ 2 ^ 11 = pow-mono {i = loop .m} {j = 11} (omega arith) in
-    let fits : 2 ^ suc (loop .m) ≤ 2 ^ (2 * s .args .n) = pow-mono {i = suc (loop .m)} {j = 2 * s .args .n} (omega arith) in
+    let fits : 2 ^ suc (loop .m) ≤ 2 ^ (2 * s .args .n) =
+    pow-mono {i = suc (loop .m)} {j = 2 * s .args .n} (omega (arith, this .loop-test .taken)) in
     rw (size-is (loop .m) m-few)
-    (omega arith, omega (arith, pow-suc 2 (loop .m), square-is (s .args .n), s .pre .3, long), whole-size (loop .m))
+    (omega arith, omega (arith, pow-suc 2 (loop .m), square-is (s .args .n), s .pre .4, long), whole-size (loop .m))
 
 add-m : tie.Need-add-m Inv-loop μ-loop
-add-m c = record { fits = omega (arith, few (c .before .before .before .before .before .before .before .before)) }
+add-m c = record { fits = omega (arith, few (c .before .before .before .before .before .before .before .before .before)) }
 
 loop-less : tie.Need-loop-less Inv-loop μ-loop
-loop-less c = let taken = c .before .before .before .before .before .before .before .before .loop-test .taken in omega arith
+loop-less c = omega (arith, c .before .before .before .before .before .before .before .before .before .loop-test .taken)
 
 loop-again : tie.Need-loop-again Inv-loop μ-loop
 loop-again c =
-    let this = c .before .before .before .before .before .before .before .before in
+    let this = c .before .before .before .before .before .before .before .before .before in
     let loop = this .before .loop in
     let s = this .before .before .before in
     let doubled = rw (size-is (loop .m) (few this)) at (c .before .before .double .ensures) in
     let made = c .before .before .before .before .before in
-    let pattern =
-    rw (made .before .before .unit-symbol .ensures, made .before .unit-symbol2 .ensures) at (made .alternating .ensures) in
-    (rw add-one (turn (s .args .n) (s .pre .1) (s .pre .2) (loop .inv .0) pattern doubled), omega (arith, this .loop-test .taken))
+    let unit = rw (one-shl 64 (loop .m) (omega (arith, few this))) at (made .before .before .before .symbols-at .ensures) in
+    let pattern = rw (unit .0, unit .1) at (made .alternating .ensures) in
+    (rw add-one (turn (s .args .n) (s .pre .2) (s .pre .3) (loop .inv .0) pattern doubled), omega (arith, this .loop-test .taken))
 
 same-length : tie.Need-same-length Inv-loop μ-loop
 same-length c = c .before .loop .inv .0 .long ∙ begun-length (c .before .before .before .args .out .now)
@@ -184,26 +205,11 @@ returns : tie.Need-returns Inv-loop μ-loop
 returns c =
     let s = c .before .before .before in
     let all : c .before .loop .m ≡ 2 * s .args .n = omega (arith, c .before .loop .inv .1) in
-    finished (s .args .n) (s .args .f) (s .args .g) (s .args .out .now) (s .pre .3) (rw all at (c .before .loop .inv .0))
+    finished (s .args .n) (s .args .f) (s .args .g) (s .args .out .now) (s .pre .4) (rw all at (c .before .loop .inv .0))
 
 pub fill-spec : {M : Type 1} → statement M
 fill-spec =
     tie.close
-    (tie.spec
-    Inv-loop
-    μ-loop
-    slice-write-out
-    slice-write-out-2
-    loop-holds
-    mul-loop
-    unit-symbol-requires
-    unit-symbol-requires-2
-    alternating-requires
-    cast-double
-    shl-double
-    double-requires
-    add-m
-    loop-less
-    loop-again
-    same-length
+    (tie.spec Inv-loop μ-loop slice-write-out slice-write-out-2 loop-holds mul-loop (λ c. search needs) shl-symbols-at symbols-at-requires
+    cast-alternating cast-alternating-2 (λ c κs. search needs) cast-double shl-double double-requires add-m loop-less loop-again same-length
     returns)

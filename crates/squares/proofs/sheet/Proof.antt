@@ -1,22 +1,23 @@
 -- `sheet` meets its contract: past the degree and the codes, the length decides.
-use mathlib.Core.Bool.{false}
+use mathlib.Core.Bool.{false, true≢false}
 use mathlib.Core.List.{List, [], _∷_, _++_}
 use mathlib.Core.Path.{_≡_, sym, ap, _∙_}
-use Prim.Native.Nat.{ℕ, _*_, _%_, _^_, _≤_, _<_}
-use native.Mathlib.Nat.{lt-of-lt-of-le, le-of-eq}
+use Prim.Native.Nat.{ℕ, _*_, _^_, _≤_, _<_}
+use native.Mathlib.Nat.{pow-le-pow-right}
 use native.Mathlib.Omega.{arith}
 use borrow.Author.Needs.{needs}
 use borrow.Author.Tests.{lt-ltb, le-ltb}
+use lib.Dec.{lit<}
 use lib.ListN.{length, drop}
 use Rattle.reply.specs.Reply.{Cause, served, refused}
 use Rattle.reply.proofs.Order.{passed, failed, kept, none-applies}
 use Rattle.poly.specs.Limits.{outside}
 use Rattle.poly.specs.Causes.{codeCauses, commonFactor}
-use Rattle.poly.specs.Replies.{checkedReply}
-use Rattle.poly.proofs.Ranges.{within, passed-codes}
+use Rattle.poly.specs.Replies.{countReply, checkedReply}
+use Rattle.poly.proofs.Ranges.{within, passed-codes, sheets-inside, count-served, count-refused}
 use Rattle.euclid.specs.Replies.{checkCoprimeReply}
 use Rattle.squares.specs.Replies.{sheetReply, sheetOf, sheetBytes}
-use Rattle.squares.proofs.Orders.{room-is, squared-le}
+use Rattle.squares.proofs.Sheets.{four-pow}
 use Rattle.squares.proofs.sheet.Statement.{statement}
 use Rattle.squares.proofs.sheet.Tie as tie
 
@@ -89,68 +90,71 @@ codes-passed : (c : tie.After-enum-told)
     → let a = c .before .before .before .before .before .before .args in served [] ≡ checkCoprimeReply (a .n) (a .f) (a .g)
 codes-passed c = sym (ap checkedReply (c .enum-told .given .1)) ∙ c .before .before .check-coprime .ensures
 
-below : (c : tie.After-enum-told) → c .before .before .before .before .before .before .args .n < 7
-below c = omega (arith, within 2 6 (inside c))
-
-squared : (c : tie.After-enum-told)
-    → let n : ℕ = c .before .before .before .before .before .before .args .n in
-    1 * 2 ^ n % 2 ^ 64 * (1 * 2 ^ n % 2 ^ 64) ≤ 4096
-squared c = squared-le (c .before .before .before .before .before .before .args .n) (below c)
-
-shl-order : tie.Need-shl-order
-shl-order c = omega (arith, below c)
-
-mul-if2 : tie.Need-mul-if2
-mul-if2 c = omega (arith, squared c)
-
-mul-if2-2 : tie.Need-mul-if2-2
-mul-if2-2 c = omega (arith, squared c)
-
+-- a degree that has sheets has an order
 returns-3 : tie.Need-returns-3
 returns-3 c =
-    let a = c .before .before .before .before .before .before .before .args in
-    short (a .n) (a .f) (a .g) (a .out .now) (inside (c .before)) (codes-passed (c .before))
-    (lt-of-lt-of-le (c .if2 .taken) (le-of-eq (room-is (a .n) (below (c .before)))))
+    let told = c .before .before .before in
+    let n : ℕ = told .before .before .before .before .before .before .args .n in
+    let refusal = count-refused n (2 ^ n) (sym (ap countReply (c .enum-told2 .given .1)) ∙ c .before .before .order .ensures) in
+    absurd (true≢false (sym (refusal .0) ∙ sheets-inside n (inside told)))
 
-room : (c : tie.Else2)
-    → let a = c .before .before .before .before .before .before .before .args in 2 * 4 ^ a .n ≤ length (a .out .now)
-room c =
-    let n : ℕ = c .before .before .before .before .before .before .before .args .n in
-    rw (room-is n (below (c .before))) at (c .if2 .left)
+-- the square of the order
+order-squared : (n : ℕ) {order : ℕ} → order ≡ 2 ^ n → order * order ≡ 4 ^ n
+order-squared n e = rw (e, four-pow n)
 
-fill-requires : tie.Need-fill-requires
-fill-requires c κs =
-    let a = c .before .before .before .before .before .before .before .before .args in
-    let codes = c .before .before in
-    let passed =
-    passed-codes (a .n) (a .f) (a .g) (commonFactor (a .f) (a .g) ∷ [])
-    (none-applies (pairCauses (a .n) (a .f) (a .g) (a .out .now)) [] [] (sym (codes-passed codes))) in
-    (below codes, passed .degree-f .high, passed .degree-g .high, room (c .before))
+abbrev told : tie.After-order2 → tie.After-enum-told
+told c = c .before .before .before
 
-same-length : tie.Need-same-length
-same-length c = search needs
+module _ (c : tie.After-order2) where
+  abbrev n : ℕ
+  n = told c .before .before .before .before .before .before .args .n
+
+  degree : (2 ≤ n) × (n ≤ 6)
+  degree = within 2 6 (inside (told c))
+
+  squared : c .order2 .given .0 .0 * c .order2 .given .0 .0 ≡ 4 ^ n
+  squared =
+      order-squared n (count-served n (2 ^ n) (sym (ap countReply (c .order2 .given .1)) ∙ c .before .before .order .ensures) .1)
+
+  few : 4 ^ n ≤ 4096
+  few = pow-le-pow-right (lit< tt) {i = n} {j = 6} (degree .1)
+
+mul-if2 : tie.Need-mul-if2
+mul-if2 c = record { fits = omega (arith, squared (c .before), few (c .before)) }
+
+mul-if2-2 : tie.Need-mul-if2-2
+mul-if2-2 c = record { fits = omega (arith, squared (c .before), few (c .before)) }
 
 returns-4 : tie.Need-returns-4
 returns-4 c =
+    let order = c .before .before in
+    let a = told order .before .before .before .before .before .before .args in
+    short (a .n) (a .f) (a .g) (a .out .now) (inside (told order)) (codes-passed (told order))
+    (omega (arith, squared order, c .if2 .taken))
+
+room : (c : tie.Else2)
+    → let a = told (c .before .before) .before .before .before .before .before .before .args in 2 * 4 ^ a .n ≤ length (a .out .now)
+room c = omega (arith, squared (c .before .before), c .if2 .left)
+
+fill-requires : tie.Need-fill-requires
+fill-requires c κs =
+    let order = c .before .before .before in
+    let a = told order .before .before .before .before .before .before .args in
+    let passed =
+    passed-codes (a .n) (a .f) (a .g) (commonFactor (a .f) (a .g) ∷ [])
+    (none-applies (pairCauses (a .n) (a .f) (a .g) (a .out .now)) [] [] (sym (codes-passed (told order)))) in
+    (omega (arith, degree order), omega (arith, degree order), passed .degree-f .high, passed .degree-g .high, room (c .before))
+
+returns-5 : tie.Need-returns-5
+returns-5 c =
     let left = c .before .before .before .before in
-    let a = left .before .before .before .before .before .before .before .args in
-    serves (a .n) (a .f) (a .g) (a .out .now) (inside (left .before)) (codes-passed (left .before)) _ (room left)
+    let order = left .before .before in
+    let a = told order .before .before .before .before .before .before .args in
+    serves (a .n) (a .f) (a .g) (a .out .now) (inside (told order)) (codes-passed (told order)) _ (room left)
     (c .before .before .fill .ensures)
 
 pub sheet-spec : {M : Type 1} → statement M
 sheet-spec =
     tie.close
-    (tie.spec
-    outside-sheets-requires
-    returns
-    check-coprime-requires
-    enum-known-codes
-    returns-2
-    enum-told
-    shl-order
-    mul-if2
-    mul-if2-2
-    returns-3
-    fill-requires
-    same-length
-    returns-4)
+    (tie.spec outside-sheets-requires returns check-coprime-requires enum-known-codes returns-2 enum-told (λ c κs. search needs)
+    (λ c. search needs) (λ c. search needs) returns-3 mul-if2 mul-if2-2 returns-4 fill-requires (λ c. search needs) returns-5)

@@ -2,26 +2,23 @@
 use mathlib.Core.Path.{_≡_, sym, ap, _∙_}
 use mathlib.Core.Bool.{false, or-true}
 use mathlib.Core.List.{[], _∷_, _++_}
-use Prim.Native.Nat.{ℕ, suc, _+_, _-_, _*_, _/_, _%_, _^_, _≤_, _<_}
+use Prim.Native.Nat.{ℕ, _+_, _*_, _^_, _≤_, _<_}
 use native.Mathlib.Nat
 use native.Mathlib.Omega.{arith}
 use borrow.Author.Needs.{needs}
 use borrow.Author.Tests.{le-leb, lt-leb}
-use lib.Arith.{digits-lt}
+use lib.Arith.{digits-lt, digits-div, digits-mod}
 use lib.Dec.{leb}
 use lib.Pow.{pow-add, pow-mono}
-use Rattle.reply.specs.Reply.{Reply, served, _gives_, unless}
+use Rattle.reply.specs.Reply.{served, _gives_, unless}
 use Rattle.reply.proofs.Order.{passed, failed, none-applies}
 use Rattle.poly.specs.Limits.{outside}
 use Rattle.poly.specs.Causes.{codeCauses}
-use Rattle.poly.specs.Replies.{checkedReply}
-use Rattle.poly.proofs.Ranges.{within, Passed, passed-codes}
-use Rattle.poly.proofs.Shifts.{one-shl}
-use Rattle.squares.specs.Symbols.{number, symbol}
-use Rattle.squares.specs.Lines.{parity, Moved}
+use Rattle.poly.specs.Replies.{countReply, checkedReply}
+use Rattle.poly.proofs.Ranges.{within, Passed, passed-codes, count-served, count-refused}
+use Rattle.squares.specs.Symbols.{symbol}
+use Rattle.squares.specs.Lines.{atSite}
 use Rattle.squares.specs.Replies.{siteReply, offSite}
-use Rattle.squares.proofs.Middle.{div-pow}
-use Rattle.squares.proofs.Binary.{symbol-parities}
 use Rattle.squares.proofs.site.Statement.{statement}
 use Rattle.squares.proofs.site.Tie as tie
 
@@ -35,145 +32,116 @@ past n f g row col degree codes =
     (passed (offSite n row col gives 5 ∷ []) (served (symbol 2 n f row col ∷ symbol 2 n g row col ∷ []))
     (codeCauses n f ++ codeCauses n g) codes)
 
-outside-requires : tie.Need-outside-requires
-outside-requires c κs = search needs
-
 returns : tie.Need-returns
 unfolding siteReply
-returns c = rw (sym (c .before .outside .ensures) ∙ c .if1 .taken)
+returns c =
+    let out = count-refused _ _ (sym (ap countReply (c .enum-told .given .1)) ∙ c .before .before .order .ensures) in
+    rw (out .0)
 
-check-pair-requires : tie.Need-check-pair-requires
-check-pair-requires c κs = search needs
-
-enum-known-codes : tie.Need-enum-known-codes
-enum-known-codes c = search needs
+-- the degree is in range, and the order is 2^n
+known : (c : tie.After-order2)
+    → let n : ℕ = c .before .before .before .args .n in
+    (outside 1 31 n ≡ false) × (c .order2 .given .0 .0 ≡ 2 ^ n)
+known c = count-served _ _ (sym (ap countReply (c .order2 .given .1)) ∙ c .before .before .order .ensures)
 
 returns-2 : tie.Need-returns-2
 unfolding siteReply
 returns-2 c =
-    let a = c .before .before .before .before .before .before .args in
-    rw (sym (c .before .before .before .before .before .outside .ensures) ∙ c .before .before .before .before .if1 .left)
+    let a = c .before .before .before .before .before .before .before .before .args in
+    rw (known (c .before .before .before .before .before) .0)
     (failed (offSite (a .n) (a .row) (a .col) gives 5 ∷ []) _ (codeCauses (a .n) (a .f) ++ codeCauses (a .n) (a .g))
     (sym (ap checkedReply (c .before .codes .given .1)) ∙ c .before .before .before .check-pair .ensures))
 
-enum-told : tie.Need-enum-told
-enum-told c = search needs
+abbrev entry : tie.After-enum-told2 → tie.Start
+entry c = c .before .before .before .before .before .before .before
 
 -- what holds once the codes have passed
-inside : (c : tie.After-enum-told) → outside 1 31 (c .before .before .before .before .before .args .n) ≡ false
-inside c = sym (c .before .before .before .before .outside .ensures) ∙ c .before .before .before .if1 .left
+module _ (c : tie.After-enum-told2) where
+  abbrev n : ℕ
+  n = entry c .args .n
 
-small : (c : tie.After-enum-told) → c .before .before .before .before .before .args .n < 32
-small c = let l = within 1 31 (inside c) in omega arith
+  abbrev f : ℕ
+  f = entry c .args .f
 
-order : (c : tie.After-enum-told)
-    → 1 * 2 ^ c .before .before .before .before .before .args .n % 2 ^ 64 ≡ 2 ^ c .before .before .before .before .before .args .n
-order c = let l = small c in one-shl 64 (c .before .before .before .before .before .args .n) (omega arith)
+  abbrev g : ℕ
+  g = entry c .args .g
 
-reply : (c : tie.After-enum-told)
-    → let a = c .before .before .before .before .before .args in
-    siteReply (a .n) (a .f) (a .g) (a .row) (a .col)
-    ≡ unless (offSite (a .n) (a .row) (a .col) gives 5 ∷ [])
-    (served (symbol 2 (a .n) (a .f) (a .row) (a .col) ∷ symbol 2 (a .n) (a .g) (a .row) (a .col) ∷ []))
-reply c =
-    let a = c .before .before .before .before .before .args in
-    past (a .n) (a .f) (a .g) (a .row) (a .col) (inside c)
-    (sym (ap checkedReply (c .enum-told .given .1)) ∙ c .before .before .check-pair .ensures)
+  abbrev row : ℕ
+  row = entry c .args .row
 
-codes : (c : tie.After-enum-told)
-    → let a = c .before .before .before .before .before .args in
-    Passed (a .n) (a .f) (a .g)
-unfolding codeCauses
-codes c =
-    let a = c .before .before .before .before .before .args in
-    passed-codes (a .n) (a .f) (a .g) []
-    (none-applies (codeCauses (a .n) (a .f) ++ codeCauses (a .n) (a .g)) [] []
-    (sym (sym (ap checkedReply (c .enum-told .given .1)) ∙ c .before .before .check-pair .ensures)))
+  abbrev col : ℕ
+  col = entry c .args .col
 
-shl-order : tie.Need-shl-order
-shl-order c = let l = small c in omega arith
+  order : c .before .before .before .before .order2 .given .0 .0 ≡ 2 ^ n
+  order = known (c .before .before .before .before) .1
+
+  range : (1 ≤ n) × (n ≤ 31)
+  range = within 1 31 (known (c .before .before .before .before) .0)
+
+  no-cause : served [] ≡ unless (codeCauses n f ++ codeCauses n g) (served [])
+  no-cause = sym (ap checkedReply (c .enum-told2 .given .1)) ∙ c .before .before .check-pair .ensures
+
+  reply : siteReply n f g row col
+      ≡ unless (offSite n row col gives 5 ∷ []) (served (symbol 2 n f row col ∷ symbol 2 n g row col ∷ []))
+  reply = past n f g row col (known (c .before .before .before .before) .0) no-cause
+
+  codes : Passed n f g
+  unfolding codeCauses
+  codes = passed-codes n f g [] (none-applies (codeCauses n f ++ codeCauses n g) [] [] (sym no-cause))
+
+  module _ (r-lt : row < 2 ^ n) (c-lt : col < 2 ^ n) where
+    place-lt : row * 2 ^ n + col < 2 ^ 62
+    place-lt =
+        Nat.lt-of-lt-of-le (rw (← pow-add 2 n n) at (digits-lt r-lt c-lt)) (pow-mono {i = n + n} {j = 62} (omega (arith, range)))
+
+    -- the symbols at the site's number are those at its row and column
+    served-here : {first second order : ℕ} → order ≡ 2 ^ n
+        → (first ≡ atSite n f (row * order + col)) × (second ≡ atSite n g (row * order + col))
+        → served (first ∷ second ∷ []) ≡ siteReply n f g row col
+    served-here is at =
+        let (one, two) = rw (is, digits-div row c-lt, digits-mod row c-lt) at at in
+        rw (one, two) (sym (reply ∙ rw (lt-leb (2 ^ n) row r-lt, lt-leb (2 ^ n) col c-lt)))
 
 returns-3 : tie.Need-returns-3
 returns-3 c =
-    let a = c .before .before .before .before .before .before .args in
-    let h : 2 ^ a .n ≤ a .row = rw (order (c .before)) at (c .if2 .taken) in
-    sym (reply (c .before) ∙ rw (le-leb (2 ^ a .n) (a .row) h))
+    let t = c .before in
+    let h : 2 ^ n t ≤ row t = rw (order t) at (c .if1 .taken) in
+    sym (reply t ∙ rw (le-leb (2 ^ n t) (row t) h))
 
 returns-4 : tie.Need-returns-4
 returns-4 c =
-    let a = c .before .before .before .before .before .before .before .args in
-    let h : 2 ^ a .n ≤ a .col = rw (order (c .before .before)) at (c .if3 .taken) in
-    sym (reply (c .before .before) ∙ rw (le-leb (2 ^ a .n) (a .col) h, or-true (leb (2 ^ a .n) (a .row))))
+    let t = c .before .before in
+    let h : 2 ^ n t ≤ col t = rw (order t) at (c .if2 .taken) in
+    sym (reply t ∙ rw (le-leb (2 ^ n t) (col t) h, or-true (leb (2 ^ n t) (row t))))
 
-row-lt : (c : tie.Else3)
-    → let a = c .before .before .before .before .before .before .before .args in
-    a .row < 2 ^ a .n
-row-lt c = rw (order (c .before .before)) at (c .before .if2 .left)
+row-lt : (c : tie.Else2) → row (c .before .before) < 2 ^ n (c .before .before)
+row-lt c = rw (order (c .before .before)) at (c .before .if1 .left)
 
-col-lt : (c : tie.Else3)
-    → let a = c .before .before .before .before .before .before .before .args in
-    a .col < 2 ^ a .n
-col-lt c = rw (order (c .before .before)) at (c .if3 .left)
+col-lt : (c : tie.Else2) → col (c .before .before) < 2 ^ n (c .before .before)
+col-lt c = rw (order (c .before .before)) at (c .if2 .left)
 
-place-lt : (n row col : ℕ) → n < 32 → row < 2 ^ n → col < 2 ^ n → row * 2 ^ n + col < 2 ^ 62
-place-lt n row col h hr hc =
-    Nat.lt-of-lt-of-le (rw (← pow-add 2 n n) at (digits-lt hr hc)) (pow-mono {i = n + n} {j = 62} (omega arith))
+mul-symbols-at : tie.Need-mul-symbols-at
+mul-symbols-at c =
+    let t = c .before .before in
+    rw (order t) (record { fits = omega (arith, place-lt t (row-lt c) (col-lt c)) })
 
-mul-place : tie.Need-mul-place
-mul-place c =
-    let a = c .before .before .before .before .before .before .before .args in
-    let l = place-lt (a .n) (a .row) (a .col) (small (c .before .before)) (row-lt c) (col-lt c) in
-    rw (order (c .before .before)) (record { fits = omega arith })
+add-symbols-at : tie.Need-add-symbols-at
+add-symbols-at c =
+    let t = c .before .before in
+    rw (order t) (record { fits = omega (arith, place-lt t (row-lt c) (col-lt c)) })
 
-add-place : tie.Need-add-place
-add-place c =
-    let a = c .before .before .before .before .before .before .before .args in
-    let l = place-lt (a .n) (a .row) (a .col) (small (c .before .before)) (row-lt c) (col-lt c) in
-    rw (order (c .before .before)) (record { fits = omega arith })
-
-mul-line : tie.Need-mul-line
-mul-line c = let l = small (c .before .before .before) in record { fits = omega arith }
-
-sub-line : tie.Need-sub-line
-sub-line c = let l = small (c .before .before .before) in omega arith
-
-shr-line : tie.Need-shr-line
-shr-line c = let l = within 1 31 (inside (c .before .before .before)) in omega arith
-
-both-requires : tie.Need-both-requires
-both-requires c κs = small (c .before .before .before)
-
--- the symbol from the line, which is the site's number in reverse without the places behind its 2n bits
-from-line : (n row : ℕ) {f col order place : ℕ} → n < 32 → f < 2 ^ suc n → col < 2 ^ n → order ≡ 2 ^ n
-    → Moved (λ i. 63 - i) (row * order + col) place → symbol 2 n f row col ≡ number 2 n (parity f (place / 2 ^ (64 - 2 * n)))
-from-line n row {f} {col} {order} {place} n-lt f-lt c-lt is moved =
-    symbol-parities n row (place / 2 ^ (64 - 2 * n)) n-lt f-lt c-lt
-    (λ i l. let same : 63 - ((64 - 2 * n) + i) ≡ n + n - suc i = omega arith in
-    rw (div-pow 2 place (64 - 2 * n) i, ← is, ← same) (moved .bit ((64 - 2 * n) + i) (omega arith)))
-
-served-here : {n f g row col order place : ℕ} {answer : Reply} → n < 32 → Passed n f g → row < 2 ^ n → col < 2 ^ n → order ≡ 2 ^ n
-    → Moved (λ i. 63 - i) (row * order + col) place
-    → let line : ℕ = place / 2 ^ (64 - 2 * n) in
-    answer ≡ served (number 2 n (parity f line) ∷ number 2 n (parity g line) ∷ [])
-    → answer ≡ unless (offSite n row col gives 5 ∷ []) (served (symbol 2 n f row col ∷ symbol 2 n g row col ∷ []))
-served-here {n} {f} {g} {row} {col} small codes r-lt c-lt is moved e =
-    rw (
-      lt-leb (2 ^ n) row r-lt,
-      lt-leb (2 ^ n) col c-lt,
-      from-line n row {f = f} small (codes .degree-f .high) c-lt is moved,
-      from-line n row {f = g} small (codes .degree-g .high) c-lt is moved,
-    )
-    e
+symbols-at-requires : tie.Need-symbols-at-requires
+symbols-at-requires c κs =
+    let t = c .before .before in
+    (range t .0, omega (arith, range t .1), codes t .degree-f .high, codes t .degree-g .high)
 
 returns-5 : tie.Need-returns-5
 returns-5 c =
-    let past = c .before .before in
-    let told = past .before .before in
-    served-here (small told) (codes told) (row-lt past) (col-lt past) (order told) (c .before .reversed .ensures) (c .both .ensures)
-    ∙ sym (reply told)
+    let t = c .before .before .before in
+    served-here t (row-lt (c .before)) (col-lt (c .before)) (order t) (c .symbols-at .ensures)
 
 pub site-spec : {M : Type 1} → statement M
 site-spec =
     tie.close
-    (tie.spec outside-requires returns check-pair-requires enum-known-codes returns-2 enum-told shl-order returns-3 returns-4 mul-place
-    add-place (λ c κs. search needs) mul-line sub-line (λ c. search needs) shr-line both-requires returns-5)
+    (tie.spec (λ c κs. search needs) (λ c. search needs) (λ c. search needs) returns (λ c κs. search needs) (λ c. search needs) returns-2
+    (λ c. search needs) returns-3 returns-4 mul-symbols-at add-symbols-at symbols-at-requires returns-5)
