@@ -18,7 +18,8 @@ def say(*words):
 
 def padded(values, size):
     """Lent memory was 9 before, and entries behind what is put stay."""
-    return list(values) + [9] * (size - len(values))
+    values = list(values)
+    return values + [9] * (size - len(values))
 
 
 def chain(n, f, g, reply, quotients):
@@ -26,8 +27,9 @@ def chain(n, f, g, reply, quotients):
     say("quotients:", *padded(quotients, 32))
 
 
-def reading(reply, powers, forces):
+def reading(reply, powers, forces, name=b""):
     say("read:", reply)
+    say("name:", *name)
     say("powers:", *padded(powers, 64))
     say("forces:", *padded(forces, 64))
 
@@ -43,6 +45,8 @@ for (f, g), (quotients, divisor) in CHAINS.items():
 for row in range(4):
     for col in range(4):
         say(f"site 2 {row} {col}: {F_ROWS[row][col]} {G_ROWS[row][col]}")
+say("sheet: done")
+say("bytes:", *padded((symbol for f, g in zip("".join(F_ROWS), "".join(G_ROWS)) for symbol in (f, g)), 34))
 say("start 1: 1 0")
 say("look: spent")
 say("draw: spent")
@@ -51,11 +55,12 @@ for n in (0, 32):
     say(f"order {n}: refused 1")
     say(f"length {n}: refused 1")
     say(f"pair {n} 0: refused 1")
+    say(f"pairs from {n} 0: refused 1 9 9")
     say(f"position {n}: refused 1")
     chain(n, 7, 5, "refused 1", [])
     say(f"site {n} 0 0: refused 1")
     say(f"start {n}: refused 1")
-reading(f"2 7 5 {len(FILE) - 1} 1", POWERS, FORCES)
+reading(f"2 7 5 {len(FILE) - 1} 1", POWERS, FORCES, b"A")
 reading("refused 17", [], [])
 reading("refused 9", [], [])
 say("write:", len(FILE))

@@ -12,7 +12,9 @@ use Rattle.pairs.specs.Pairs.{turn, build, pairs}
 use Rattle.pairs.specs.Replies.{pairAtReply}
 use Rattle.positions.specs.Replies.{positionReply}
 use Rattle.squares.specs.Symbols.{outputCell, symbol}
-use Rattle.squares.specs.Replies.{siteReply}
+use Rattle.listing.specs.Replies.{pairsFrom, fromReply}
+use Rattle.squares.specs.Sheets.{sheet}
+use Rattle.squares.specs.Replies.{siteReply, sheetReply, sheetOf, sheetBytes}
 use Rattle.walk.specs.Walks.{badRecord, lookReply, afterDraw}
 use Rattle.trial.specs.Number.{encodeNumber, parseNumber}
 use Rattle.trial.specs.Trial.{encodeHead, encodeBody, encode, parseCodes, parseHead, parseText, parseName, parseEnd, parseBody, parse}
@@ -22,7 +24,7 @@ use Rattle.edges.specs.Table.{EdgesClaim}
 pub edges : EdgesClaim
 unfolding add mul scale degree inverse bringDown divide gcd outside offDegree codeCauses
     chain wordsFrom compositions sequences block turn build pairs pairAtReply
-    positionReply outputCell symbol siteReply badRecord lookReply
+    positionReply pairsFrom fromReply outputCell symbol siteReply sheet sheetReply sheetOf sheetBytes badRecord lookReply
     afterDraw encodeNumber parseNumber encodeHead encodeBody encode parseCodes parseHead
     parseText parseName parseEnd parseBody parse contentCauses read writeReply
 edges = refl

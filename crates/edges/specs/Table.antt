@@ -3,17 +3,18 @@
 use mathlib.Core.Path.{_≡_}
 use Prim.Native.Nat.{ℕ, suc}
 use mathlib.Core.List.{List, [], _∷_, _++_, map}
-use lib.ListN.{length, take, drop, replicate}
+use lib.ListN.{length, take, replicate}
 use Rattle.reply.specs.Reply.{Reply, served, refused, spent}
 use Rattle.poly.specs.Replies.{orderReply, lengthReply}
 use Rattle.euclid.specs.Replies.{chainReply, chainContent}
 use Rattle.pairs.specs.Replies.{pairAtReply}
 use Rattle.positions.specs.Replies.{positionReply}
-use Rattle.squares.specs.Replies.{siteReply}
+use Rattle.listing.specs.Replies.{fromReply}
+use Rattle.squares.specs.Replies.{siteReply, sheetReply, sheetBytes}
 use Rattle.walk.specs.declared.Walk.{Walk}
 use Rattle.walk.specs.Walks.{startReply, started, lookReply, afterDraw}
 use Rattle.trial.specs.Trial.{Trial, trialFrom}
-use Rattle.trial.specs.Replies.{read, readReply, levelsAfter, writeReply, fileAfter}
+use Rattle.trial.specs.Replies.{read, readReply, nameRead, levelsAfter, writeReply, fileAfter}
 
 pub record Case : Type 0 where
   pub computed : Reply
@@ -80,6 +81,17 @@ squares =
     ++ sites 2 0 (2 ∷ 3 ∷ 1 ∷ 0 ∷ []) (2 ∷ 3 ∷ 0 ∷ 1 ∷ [])
     ++ sites 3 0 (1 ∷ 0 ∷ 2 ∷ 3 ∷ []) (3 ∷ 2 ∷ 1 ∷ 0 ∷ [])
 
+-- The same by the sheet call, in 34 lent bytes, all 0 before: two bytes a site, row by row, and the two behind them stay.
+abbrev pub laid : List ℕ
+laid =
+    0 ∷ 0 ∷ 1 ∷ 1 ∷ 3 ∷ 2 ∷ 2 ∷ 3
+    ∷ 3 ∷ 1 ∷ 2 ∷ 0 ∷ 0 ∷ 3 ∷ 1 ∷ 2
+    ∷ 2 ∷ 2 ∷ 3 ∷ 3 ∷ 1 ∷ 0 ∷ 0 ∷ 1
+    ∷ 1 ∷ 3 ∷ 0 ∷ 2 ∷ 2 ∷ 1 ∷ 3 ∷ 0 ∷ []
+
+abbrev pub sheets : List Case
+sheets = sheetReply 2 7 5 34 is served [] ∷ served (sheetBytes 2 7 5 (zeros 34)) is served (laid ++ zeros 2) ∷ []
+
 -- Degree 1: the first draw says spent, and leaves the record.
 abbrev pub fields : Walk → List ℕ
 fields walk = walk .degree ∷ walk .position ∷ []
@@ -98,6 +110,7 @@ outsideAt n =
     orderReply n is refused 1
     ∷ lengthReply n is refused 1
     ∷ pairAtReply n 0 is refused 1
+    ∷ fromReply n 0 2 is refused 1
     ∷ positionReply n 7 5 is refused 1
     ∷ chainReply n 7 5 32 is refused 1
     ∷ siteReply n 7 5 0 0 is refused 1
@@ -126,7 +139,7 @@ abbrev pub files : List Case
 files =
     -- degree, f, g, and that the name is the one byte at 18
     reading file is served (2 ∷ 7 ∷ 5 ∷ 18 ∷ 1 ∷ [])
-    ∷ served (take 1 (drop 18 file)) is served (0x41 ∷ [])
+    ∷ served (nameRead (read 64 64 file)) is served (0x41 ∷ [])
     ∷ served (levelsAfter (λ t. t .powers) (read 64 64 file) (zeros 64)) is served (powers ++ zeros 60)
     ∷ served (levelsAfter (λ t. t .forces) (read 64 64 file) (zeros 64)) is served (forces ++ zeros 60)
     ∷ reading (file ++ (0 ∷ [])) is refused 17
@@ -136,7 +149,7 @@ files =
     ∷ []
 
 abbrev pub table : List Case
-table = lengths ++ degree3 ++ degree4 ++ chains ++ squares ++ walks ++ outsideAt 0 ++ outsideAt 32 ++ files
+table = lengths ++ degree3 ++ degree4 ++ chains ++ squares ++ sheets ++ walks ++ outsideAt 0 ++ outsideAt 32 ++ files
 
 -- All of it as one equation between lists of replies.
 abbrev pub EdgesClaim : Type 0

@@ -1,11 +1,13 @@
 // Prints what the compiled library answers to document 01's entries on the edges, in the order of the table in specs/Table.antt.
 use euclid::Chained;
 use libc::STDOUT_FILENO;
+use listing::Filled;
 use pairs::Found;
 use poly::Count;
 use poly::Degree;
 use positions::Place;
 use reply::Refusal;
+use squares::Laid;
 use squares::Symbols;
 use trial_reader::ReadTrial;
 use trial_writer::Written;
@@ -61,6 +63,21 @@ fn pair(n: u32, position: u64) {
         }
         Found::Refused(refusal) => refused(refusal),
     }
+    text(b"\n");
+}
+
+fn pairs_from(n: u32) {
+    let mut out = [9u32; 2];
+    text(b"pairs from");
+    number(n as u64);
+    number(0);
+    text(b":");
+    match listing::pairs_from(n, 0, &mut out) {
+        Filled::Pairs(count) => number(count as u64),
+        Filled::Refused(refusal) => refused(refusal),
+    }
+    number(from_u32(out[0]));
+    number(from_u32(out[1]));
     text(b"\n");
 }
 
@@ -157,11 +174,24 @@ fn site(n: u32, row: u32, col: u32) {
     text(b"\n");
 }
 
+fn sheet() {
+    let mut out = [9u8; 34];
+    text(b"sheet:");
+    match squares::sheet(2, 7, 5, &mut out) {
+        Laid::Done => text(b" done"),
+        Laid::Refused(refusal) => refused(refusal),
+    }
+    text(b"\nbytes:");
+    bytes(&out);
+    text(b"\n");
+}
+
 fn read(file: &[u8]) {
     let mut powers = [9u16; 64];
     let mut forces = [9u16; 64];
     text(b"read:");
-    match trial_reader::read(file, &mut powers, &mut forces) {
+    let answer = trial_reader::read(file, &mut powers, &mut forces);
+    match answer {
         ReadTrial::Content(content) => {
             number(content.degree as u64);
             number(content.f as u64);
@@ -171,6 +201,8 @@ fn read(file: &[u8]) {
         }
         ReadTrial::Refused(refusal) => refused(refusal),
     }
+    text(b"\nname:");
+    bytes(trial_reader::name_part(file, answer));
     text(b"\npowers:");
     levels(&powers);
     text(b"\nforces:");
@@ -188,7 +220,7 @@ fn write() {
         Written::Refused(refusal) => refused(refusal),
     }
     text(b"\nfile:");
-    file_bytes(&out);
+    bytes(&out);
     text(b"\n");
 }
 
@@ -216,9 +248,11 @@ fn levels(out: &[u16; 64]) {
     }
 }
 
-fn file_bytes(out: &[u8; 19]) {
-    for i in 0..19usize {
-        number(from_u8(out[i]));
+fn bytes(list: &[u8]) {
+    let mut i: usize = 0;
+    while i < list.len() {
+        number(from_u8(list[i]));
+        i += 1;
     }
 }
 
@@ -258,6 +292,7 @@ fn outside(n: u32) {
     order(n);
     length(n);
     pair(n, 0);
+    pairs_from(n);
     position(n);
     chain(n, 7, 5);
     site(n, 0, 0);
@@ -302,6 +337,7 @@ fn main() {
     degree_4();
     chains();
     squares_of_7_5();
+    sheet();
     start(1);
     walk(1);
     outside(0);

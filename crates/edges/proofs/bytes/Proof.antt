@@ -1,17 +1,18 @@
--- `file_bytes` ends: its loop counts to 19.
+-- `bytes` ends: its loop counts to the length of the list.
 use Prim.Native.Nat.{_-_, _≤_}
 use borrow.Author.Needs.{needs}
-use Rattle.edges.proofs.file_bytes.Statement.{statement}
-use Rattle.edges.proofs.file_bytes.Tie as tie
+use lib.ListN.{length}
+use Rattle.edges.proofs.bytes.Statement.{statement}
+use Rattle.edges.proofs.bytes.Tie as tie
 
 abbrev Inv-loop : tie.InvT-loop
-Inv-loop out i₀ i = i ≤ 19
+Inv-loop list i₀ i = i ≤ length list
 
 abbrev μ-loop : tie.MeasureT-loop
-μ-loop out i₀ i = 19 - i
+μ-loop list i₀ i = length list - i
 
-pub file-bytes-spec : {M : Type 1} → statement M
-file-bytes-spec =
+pub bytes-spec : {M : Type 1} → statement M
+bytes-spec =
     tie.close
     (tie.spec
     Inv-loop
