@@ -5,6 +5,7 @@ pub mod Order
 pub mod Number
 pub mod Field
 pub mod Levels
+pub mod Apart
 pub mod Content
 pub mod Trial
 pub mod Room
