@@ -1,1 +1,2 @@
 pub mod Demanded
+pub mod Trials

@@ -10,6 +10,7 @@ pub mod Exchanges
 pub mod Runs
 pub mod Sheets
 pub mod Bytes
+pub mod Agreeing
 pub mod Served
 pub mod Claims
 pub mod Examples

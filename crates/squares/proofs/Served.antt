@@ -1,10 +1,9 @@
 -- A sheet call that is served: none of its causes applies, so the site call is served too and answers with the bytes of the site; and the
--- codes are coprime, so the squares are orthogonal.
+-- codes are coprime, so the squares are Latin and orthogonal, and so are those that the bytes show.
 use mathlib.Core.Path.{_≡_, sym, ap₂, _∙_}
 use mathlib.Core.Bool.{false}
 use mathlib.Core.List.{[], _∷_, List}
 use Prim.Native.Nat.{ℕ, _+_, _*_, _^_, _<_}
-use native.Mathlib.Nat
 use native.Mathlib.Nat.{le-refl}
 use native.Mathlib.Omega.{arith}
 use lib.Arith.{digits-lt}
@@ -13,17 +12,19 @@ use borrow.Author.Tests.{eqb-true, not-false, lt-leb}
 use lib.ListN.{length, drop, getD, List·getD-append}
 use Rattle.reply.specs.Reply.{served, _gives_}
 use Rattle.reply.proofs.Order.{NoneApplies, none-applies, none-refuses}
-use Rattle.poly.proofs.Ranges.{sheets-inside, passed-codes}
+use Rattle.poly.proofs.Ranges.{sheets-inside, Passed, passed-codes}
 use Rattle.poly.specs.Causes.{codeCauses, commonFactor}
 use Rattle.poly.specs.Coprime.{gcd}
 use Rattle.poly.proofs.Primes.{inverses-2}
 use Rattle.poly.proofs.Binary.{coprime-one}
-use Rattle.squares.specs.Squares.{Latin, Orthogonal}
 use Rattle.squares.specs.Symbols.{symbol}
-use Rattle.squares.specs.Sheets.{siteBytes}
+use Rattle.squares.specs.Sheets.{siteBytes, shown}
 use Rattle.squares.specs.Replies.{offSite, siteCauses, siteReply, sheetCauses, sheetOf, sheetReply, sheetBytes}
+use Rattle.squares.specs.Claims.{TwoSquares}
+use Rattle.squares.proofs.Linear
 use Rattle.squares.proofs.Latin.{latin}
 use Rattle.squares.proofs.Orthogonal.{orthogonal-coprime}
+use Rattle.squares.proofs.Agreeing.{Agree, latin-same, orthogonal-same}
 use Rattle.squares.proofs.Sheets.{four-pow, byte-at, sheetOf-length}
 
 module _ (n f g : ℕ) (lent : List ℕ) (is-served : sheetReply n f g (length lent) ≡ served []) where
@@ -42,36 +43,56 @@ module _ (n f g : ℕ) (lent : List ℕ) (is-served : sheetReply n f g (length l
       on-site : offSite n row col ≡ false
       on-site = rw (lt-leb (2 ^ n) row hr, lt-leb (2 ^ n) col hc)
 
-  byte-after : (row col : ℕ) {j : ℕ} → row < 2 ^ n → col < 2 ^ n → j < 2
-      → getD (sheetBytes n f g lent) (2 * (row * 2 ^ n + col) + j) 0 ≡ getD (siteBytes (symbol 2 n f) (symbol 2 n g) row col) j 0
-  unfolding sheetBytes sheetOf
-  byte-after row col {j} hr hc hj =
+  -- the bytes show the two symbols of each site
+  shown-is : (row col : ℕ) {k : ℕ} → row < 2 ^ n → col < 2 ^ n → k < 2
+      → shown (2 ^ n) k (sheetBytes n f g lent) row col ≡ getD (siteBytes (symbol 2 n f) (symbol 2 n g) row col) k 0
+  unfolding sheetBytes sheetOf shown
+  shown-is row col {k} hr hc hk =
       let place-lt : row * 2 ^ n + col < 2 ^ n * 2 ^ n = digits-lt hr hc in
       let regroup : 4 ^ n ≡ 2 ^ n * 2 ^ n = four-pow n in
-      let inside : 2 * (row * 2 ^ n + col) + j < length (sheetOf n f g) = rw (sheetOf-length n f g) (omega arith) in
+      let inside : 2 * (row * 2 ^ n + col) + k < length (sheetOf n f g) = rw (sheetOf-length n f g) (omega arith) in
       rw is-served
-      (List·getD-append (sheetOf n f g) (drop (2 * 4 ^ n) lent) 0 (2 * (row * 2 ^ n + col) + j) inside
-      ∙ byte-at (2 ^ n) (symbol 2 n f) (symbol 2 n g) row col hr hc hj)
+      (List·getD-append (sheetOf n f g) (drop (2 * 4 ^ n) lent) 0 (2 * (row * 2 ^ n + col) + k) inside
+      ∙ byte-at (2 ^ n) (symbol 2 n f) (symbol 2 n g) row col hr hc hk)
+
+  shows-first : Agree (2 ^ n) (symbol 2 n f) (shown (2 ^ n) 0 (sheetBytes n f g lent))
+  shows-first row col hr hc = sym (shown-is row col {k = 0} hr hc (omega arith))
+
+  shows-second : Agree (2 ^ n) (symbol 2 n g) (shown (2 ^ n) 1 (sheetBytes n f g lent))
+  shows-second row col hr hc = sym (shown-is row col {k = 1} hr hc (omega arith))
 
   -- the two bytes of a site are what the site call answers
   pub sheet-site : (row col : ℕ) → row < 2 ^ n → col < 2 ^ n
       → let bytes : List ℕ = sheetBytes n f g lent in
-      let place : ℕ = 2 * (row * 2 ^ n + col) in
-      siteReply n f g row col ≡ served (getD bytes place 0 ∷ getD bytes (place + 1) 0 ∷ [])
+      siteReply n f g row col ≡ served (shown (2 ^ n) 0 bytes row col ∷ shown (2 ^ n) 1 bytes row col ∷ [])
   sheet-site row col hr hc =
-      let first = rw (Nat.add-zero (2 * (row * 2 ^ n + col))) at (byte-after row col {j = 0} hr hc (omega arith)) in
-      let second = byte-after row col {j = 1} hr hc (omega arith) in
       site-served row col hr hc
-      ∙ sym (ap₂ (λ (a b : ℕ). served (a ∷ b ∷ [])) first second)
+      ∙ ap₂ (λ (a b : ℕ). served (a ∷ b ∷ [])) (shows-first row col hr hc) (shows-second row col hr hc)
+
+  passed : Passed n f g
+  unfolding codeCauses
+  passed = passed-codes n f g (commonFactor f g ∷ ltb (length lent) (2 * 4 ^ n) gives 4 ∷ []) (found .1)
+
+  -- the bytes are symbols
+  pub shown-lt : (row col : ℕ) → row < 2 ^ n → col < 2 ^ n
+      → let bytes : List ℕ = sheetBytes n f g lent in (shown (2 ^ n) 0 bytes row col < 2 ^ n) × (shown (2 ^ n) 1 bytes row col < 2 ^ n)
+  shown-lt row col hr hc = (
+    rw (← shows-first row col hr hc) (Linear.symbol-lt 2 (le-refl 2) n (passed .degree-f .high) row hc),
+    rw (← shows-second row col hr hc) (Linear.symbol-lt 2 (le-refl 2) n (passed .degree-g .high) row hc),
+  )
 
   -- both squares are Latin squares, and laid together show each pair of symbols at exactly one site
-  pub sheet-squares : Latin (2 ^ n) (symbol 2 n f) × Latin (2 ^ n) (symbol 2 n g) × Orthogonal (2 ^ n) (symbol 2 n f) (symbol 2 n g)
+  pub shows-squares : TwoSquares (2 ^ n) (sheetBytes n f g lent)
   unfolding codeCauses
-  sheet-squares =
+  shows-squares =
       let (degree, (f-degree, (f-constant, (g-degree, (g-constant, (common, rest)))))) = found in
-      let passed = passed-codes n f g (commonFactor f g ∷ ltb (length lent) (2 * 4 ^ n) gives 4 ∷ []) (found .1) in
-      let coprime = coprime-one f g .1 (eqb-true (gcd 2 f g) 1 (not-false (eqb (gcd 2 f g) 1) common)) in (
-        latin 2 (le-refl 2) inverses-2 n (passed .degree-f) (omega (arith, passed .odd-f)),
-        latin 2 (le-refl 2) inverses-2 n (passed .degree-g) (omega (arith, passed .odd-g)),
-        orthogonal-coprime 2 (le-refl 2) inverses-2 n (passed .degree-f) (passed .degree-g) .1 coprime,
-      )
+      let coprime = coprime-one f g .1 (eqb-true (gcd 2 f g) 1 (not-false (eqb (gcd 2 f g) 1) common)) in
+      record {
+        first =
+            latin-same (2 ^ n) shows-first (latin 2 (le-refl 2) inverses-2 n (passed .degree-f) (omega (arith, passed .odd-f)));
+        second =
+            latin-same (2 ^ n) shows-second (latin 2 (le-refl 2) inverses-2 n (passed .degree-g) (omega (arith, passed .odd-g)));
+        crossing =
+            orthogonal-same (2 ^ n) shows-first shows-second
+            (orthogonal-coprime 2 (le-refl 2) inverses-2 n (passed .degree-f) (passed .degree-g) .1 coprime);
+      }

@@ -1,6 +1,7 @@
 -- The bytes of a sheet (document 01, "Squares and sheets").
-use Prim.Native.Nat.{ℕ, zero, suc}
+use Prim.Native.Nat.{ℕ, zero, suc, _+_, _*_}
 use mathlib.Core.List.{List, [], _∷_, _++_}
+use lib.ListN.{getD}
 use Rattle.squares.specs.Squares.{Square}
 
 -- h 0, then h 1, .., then h (k - 1).
@@ -17,3 +18,7 @@ rowBytes N first second row = each N (siteBytes first second row)
 
 unfoldable pub sheet : ℕ → Square → Square → List ℕ
 sheet N first second = each N (rowBytes N first second)
+
+-- The square that byte k of each site shows, in the bytes of a sheet of order N: the first square for k = 0, the second for k = 1.
+unfoldable pub shown : ℕ → ℕ → List ℕ → Square
+shown N k bytes row col = getD bytes (2 * (row * N + col) + k) 0

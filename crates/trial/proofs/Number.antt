@@ -54,6 +54,17 @@ encode-length (suc k) n low high =
     let some : 1 ≤ 128 ^ k = one-le-pow k 128 (lit< tt) in
     rw (encode-step n (omega (arith, pow-suc 128 k))) (ap suc (encode-length k (n / 128) above below))
 
+-- A number of at most k + 1 groups takes at most so many.
+pub encode-most : (k n : ℕ) → n < 128 ^ suc k → length (encodeNumber n) ≤ suc k
+encode-most zero n high = rw (encode-small n (omega arith)) (omega arith)
+encode-most (suc k) n high =
+    elim (decLt n 128) [
+      | yes small ↦ rw (encode-small n small) (omega arith)
+      | no large ↦
+          let rest = encode-most k (n / 128) (omega (arith, pow-suc 128 (suc k))) in
+          rw (encode-step n (omega arith)) (omega arith)
+    ]
+
 groups-back-more : (limit low high : ℕ) (rest : List ℕ) → low < 128
     → parseGroups limit (encodeNumber (suc high) ++ rest) ≡ parsed (suc high) rest
     → parseGroups (suc limit) (encodeNumber (low + 128 * suc high) ++ rest) ≡ parsed (low + 128 * suc high) rest

@@ -21,9 +21,10 @@ use Rattle.trial.specs.Trial.{Head, Trial, version, encodeHead, encodeBo
 use Rattle.trial.specs.Trial.{headCauses, sizeCauses, textCauses, anyUnprintable, parseCodes, parseHead, parseText, parseName}
 use Rattle.trial.specs.Trial.{parseEnd, parseBody, parse}
 use Rattle.trial.specs.Replies.{nameCauses, bodyCauses, contentCauses}
-use Rattle.trial.proofs.Parser.{clear-append, clear-left, clear-right, barred, with-parsed}
+use Rattle.trial.proofs.Parser.{clear-append, barred, with-parsed}
 use Rattle.trial.proofs.Field.{field-back, below-rest, with-field}
 use Rattle.trial.proofs.Levels.{levels-back, levels-same}
+use Rattle.trial.proofs.Content.{sound}
 
 -- A code of degree n, 6 at most, fits a number.
 code-fits : (n code : ℕ) → n ≤ 6 → NoneApplies (codeCauses n code) → code ≤ 4294967295
@@ -103,11 +104,9 @@ last-same bytes {name} {rest} below e =
     rw name-is (record { clear = (rw whole (c .0), (t .0 .1 .0, tt)); same = rw (whole, all) s })
 
 -- A list of levels, of the length asked, is read back.
-list-back : (count : ℕ) (levels rest : List ℕ) → not (eqb (length levels) count) ≡ false → AllBelow 65536 levels → disordered levels ≡ false
+list-back : (count : ℕ) (levels rest : List ℕ) → length levels ≡ count → AllBelow 65536 levels → disordered levels ≡ false
     → parseLevels count [] (encodeNumbers levels ++ rest) ≡ parsed levels rest
-list-back count levels rest size low ordered =
-    let count-is : length levels ≡ count = eqb-true (length levels) count (not-false (eqb (length levels) count) size) in
-    rw count-is at (levels-back levels [] rest low ordered)
+list-back count levels rest long low ordered = rw long at (levels-back levels [] rest low ordered)
 
 -- What the writer accepts is read back.
 pub trial-back : (t : Trial) → AllBelow 65536 (t .powers) → AllBelow 65536 (t .forces) → NoneApplies (contentCauses t)
@@ -116,15 +115,14 @@ unfolding contentCauses encode encodeBody parse parseBody
 trial-back t low-powers low-forces clear =
     let order : ℕ = 2 ^ t .head .degree in
     let name-bytes : List ℕ = encodeNumber (length (t .name)) ++ t .name in
-    let body = clear-right (headCauses (t .head)) (bodyCauses t) clear in
-    let sizes = neither (not (eqb (length (t .powers)) order)) _ (body .0) in
+    let s = sound t clear in
     let forces-bytes : List ℕ = encodeNumbers (t .forces) ++ name-bytes in
     simp append-assoc
     (rw (
-      head-back (t .head) (encodeNumbers (t .powers) ++ forces-bytes) (clear-left (headCauses (t .head)) (bodyCauses t) clear),
-      list-back order (t .powers) forces-bytes (sizes .0) low-powers (body .1 .0),
-      list-back order (t .forces) name-bytes (sizes .1) low-forces (body .1 .1 .0),
-      last-back (t .name) (body .1 .1 .1),
+      head-back (t .head) (encodeNumbers (t .powers) ++ forces-bytes) (s .head),
+      list-back order (t .powers) forces-bytes (s .powers-long) low-powers (s .powers-ordered),
+      list-back order (t .forces) name-bytes (s .forces-long) low-forces (s .forces-ordered),
+      last-back (t .name) (s .name),
     ))
 
 -- A list of levels was read.

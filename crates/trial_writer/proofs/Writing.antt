@@ -2,25 +2,22 @@
 use mathlib.Core.Path.{_≡_, sym, _∙_}
 use Prim.Native.Nat.{ℕ, _+_, _^_, _≤_, _<_}
 use mathlib.Core.List.{List, [], _∷_}
-use mathlib.Core.Bool.{not}
 use native.Mathlib.Nat.{zero-add}
 use native.Mathlib.Omega.{arith}
 use lib.ListN.{length}
 use lib.Seq.{sets-eq}
-use lib.Dec.{eqb}
-use borrow.Author.Tests.{lt-ltb, le-ltb, ltb-false, eqb-true, not-false}
+use borrow.Author.Tests.{lt-ltb, le-ltb}
 use Rattle.reply.specs.Numbers.{numberOf}
 use Rattle.reply.specs.Reply.{served, refused, unless}
 use Rattle.reply.proofs.Order.{passed, failed, kept, none-applies}
 use Rattle.reply.specs.declared.Refusal.{Refusal}
-use Rattle.poly.proofs.Ranges.{neither}
 use Rattle.trial_writer.specs.declared.writer.Written.the-variants.{Length, Refused}
-use Rattle.trial.specs.Trial.{Trial, encode, headCauses}
-use Rattle.trial.specs.Replies.{over, bodyCauses, contentCauses, roomCauses, writeReply}
+use Rattle.trial.specs.Trial.{Trial, encode}
+use Rattle.trial.specs.Replies.{over, contentCauses, roomCauses, writeReply}
 use Rattle.trial_writer.specs.Inner.{Short, Puts}
 use Rattle.trial_writer.specs.Answers.{WriteDone}
 use Rattle.trial.proofs.Order.{order-few}
-use Rattle.trial.proofs.Parser.{clear-left, clear-right}
+use Rattle.trial.proofs.Content.{sound}
 
 module _ (t : Trial) (out : List ℕ) where
   pub refused-write : {why : Refusal} → refused (numberOf why) ≡ writeReply t (length out) → WriteDone t out (Refused why) out
@@ -46,17 +43,11 @@ module _ (t : Trial) (out : List ℕ) where
         record { reply = rw (e, p .next, zero-add); after = rw (e, p .after, sets-eq (encode t) out 0 room, zero-add) }
 
     pub short : Short (t .powers) (t .forces) (t .name)
-    unfolding contentCauses
     short =
-        let clear = none-applies (contentCauses t) [] [] (sym accepted) in
-        let order = 2 ^ t .head .degree in
-        let few : order ≤ 64 = order-few (t .head .degree) (clear-left (headCauses (t .head)) (bodyCauses t) clear .0) in
-        let body = clear-right (headCauses (t .head)) (bodyCauses t) clear in
-        let sizes = neither (not (eqb (length (t .powers)) order)) _ (body .0) in
-        let powers : length (t .powers) ≡ order = eqb-true _ order (not-false _ (sizes .0)) in
-        let forces : length (t .forces) ≡ order = eqb-true _ order (not-false _ (sizes .1)) in
+        let s = sound t (none-applies (contentCauses t) [] [] (sym accepted)) in
+        let few : 2 ^ t .head .degree ≤ 64 = order-few (t .head .degree) (s .degree) in
         record {
-          fewPowers = omega arith;
-          fewForces = omega arith;
-          shortName = ltb-false 40 (length (t .name)) (body .1 .1 .1 .0);
+          fewPowers = omega (arith, s .powers-long);
+          fewForces = omega (arith, s .forces-long);
+          shortName = s .name-short;
         }
