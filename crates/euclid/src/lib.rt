@@ -37,7 +37,8 @@ pub fn quotients(n: u32, f: u32, g: u32, out: &mut [u32]) -> Chained
     Chained::Quotients { count, divisor }
 }
 
-// The quotients of a and b, written from out[at] on, and the last divisor. It gives the position behind them.
+// The quotients of a and b, written from out[at] on, and the last divisor. It gives the position behind them. What falls from call to call
+// is the degree: a remainder has a lower one than its divisor, or is 0.
 fn divisions(a: u32, b: u32, out: &mut [u32], at: usize, divisor: &mut u32) -> usize
     requires { ⌜ at + length (chain 2 a b .quotients) ≤ length (now out) ⌝ }
     ensures end { λ r. ⌜ (r ≡ at + length (chain 2 a b .quotients)) × (now (divisor .exit) ≡ chain 2 a b .divisor) ⌝ }

@@ -11,5 +11,5 @@ use Rattle.listing.specs.Replies.{fromReply, fromContent}
 abbrev pub FromClaim : Type 0
 FromClaim =
     (n position : ℕ) (out : List ℕ) (many i : ℕ) → fromReply n position (length out) ≡ served (many ∷ []) → i < many
-    → let now : List ℕ = fromContent n position out in
-    pairAtReply n (position + i) ≡ served (getD now (2 * i) 0 ∷ getD now (2 * i + 1) 0 ∷ [])
+    → let written : List ℕ = fromContent n position out in
+    pairAtReply n (position + i) ≡ served (getD written (2 * i) 0 ∷ getD written (2 * i + 1) 0 ∷ [])

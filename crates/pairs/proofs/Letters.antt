@@ -11,12 +11,12 @@ use lib.Dec.{ltb, eqb}
 use lib.Arith.{digits-div}
 use lib.Pow.{pow-pos}
 use borrow.Author.Tests.{lt-ltb, le-ltb}
-use Rattle.pairs.specs.Words.{State, step, number}
+use Rattle.pairs.specs.Words.{State, step, asNumber}
 use Rattle.pairs.specs.Sequences.{bit}
 use Rattle.pairs.proofs.Valid.{constant}
 use Rattle.pairs.proofs.Words.{count, count-suc, wordAt, wordAt-known}
 
-number-cons : (l : Bool) (w : List Bool) → number (l ∷ w) ≡ bit l * 2 ^ length w + number w
+number-cons : (l : Bool) (w : List Bool) → asNumber (l ∷ w) ≡ bit l * 2 ^ length w + asNumber w
 number-cons false w = simp (zero-mul, zero-add)
 number-cons true w = simp one-mul
 
@@ -25,7 +25,7 @@ abbrev pub letters : ℕ → ℕ → List Bool
 letters zero x = []
 letters (suc m) x = constant (x / 2 ^ m) ∷ letters m x
 
-pub number-lt : (w : List Bool) → number w < 2 ^ length w
+pub number-lt : (w : List Bool) → asNumber w < 2 ^ length w
 number-lt [] = omega arith
 number-lt (false ∷ w) = omega (arith, pow-suc 2 (length w), number-lt w)
 number-lt (true ∷ w) = omega (arith, pow-suc 2 (length w), number-lt w)
@@ -42,10 +42,10 @@ constant-bit : (l : Bool) → constant (bit l) ≡ l
 constant-bit false = refl
 constant-bit true = refl
 
-pub letters-number : (w : List Bool) → letters (length w) (number w) ≡ w
+pub letters-number : (w : List Bool) → letters (length w) (asNumber w) ≡ w
 letters-number [] = refl
 letters-number (l ∷ w) =
-    rw (number-cons l w, digits-div (bit l) (number-lt w), letters-above (length w) (bit l) (number w))
+    rw (number-cons l w, digits-div (bit l) (number-lt w), letters-above (length w) (bit l) (asNumber w))
     (ap₂ _∷_ (constant-bit l) (letters-number w))
 
 -- The number read letter by letter, x so far.
@@ -53,7 +53,7 @@ abbrev pub numberFrom : ℕ → List Bool → ℕ
 numberFrom x [] = x
 numberFrom x (l ∷ w) = numberFrom (x * 2 + bit l) w
 
-pub numberFrom-is : (x : ℕ) (w : List Bool) → numberFrom x w ≡ x * 2 ^ length w + number w
+pub numberFrom-is : (x : ℕ) (w : List Bool) → numberFrom x w ≡ x * 2 ^ length w + asNumber w
 numberFrom-is x [] = omega (arith, mul-one x)
 numberFrom-is x (l ∷ w) =
     numberFrom-is (x * 2 + bit l) w
@@ -74,7 +74,7 @@ wordNumber s (suc m) i =
     let with1 : ℕ = 2 ^ m + wordNumber (step s true) m (i - zeros) in
     cond (ltb i zeros) with0 with1
 
-pub wordNumber-is : (s : State) (m i : ℕ) → i < count s m → wordNumber s m i ≡ number (wordAt s m i)
+pub wordNumber-is : (s : State) (m i : ℕ) → i < count s m → wordNumber s m i ≡ asNumber (wordAt s m i)
 wordNumber-is s zero i h = refl
 wordNumber-is s (suc m) i h = elim (decLt i (count (step s false) m)) [
   | yes l ↦ rw (lt-ltb i (count (step s false) m) l) (wordNumber-is (step s false) m i l)

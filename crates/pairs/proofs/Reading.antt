@@ -7,13 +7,13 @@ use mathlib.Core.Bool.{true, false}
 use mathlib.Core.List.{[]}
 use lib.ListN.{length, getD}
 use borrow.Author.Tests.{lt-ltb, le-ltb}
-use Rattle.pairs.specs.Words.{State, s10, s11, s01, step, wordsFrom, number}
+use Rattle.pairs.specs.Words.{State, s10, s11, s01, step, wordsFrom, asNumber}
 use Rattle.pairs.proofs.Words.{count, count-suc, wordAt, wordAt-known, listed-wordsFrom}
 use Rattle.pairs.proofs.Letters.{number-lt, wordNumber, wordNumber-is}
 
 -- The number of the word at index i of those of m letters from a state.
 abbrev pub numberAt : State → ℕ → ℕ → ℕ
-numberAt s m i = number (getD (wordsFrom s m) i [])
+numberAt s m i = asNumber (getD (wordsFrom s m) i [])
 
 long : (s : State) (m : ℕ) → length (wordsFrom s m) ≡ count s m
 long s m = listed-wordsFrom s m .long
@@ -21,7 +21,7 @@ long s m = listed-wordsFrom s m .long
 numberAt-is : (s : State) (m i : ℕ) → i < length (wordsFrom s m) → numberAt s m i ≡ wordNumber s m i
 numberAt-is s m i h =
     let l : i < count s m = rw long at h in
-    ap number (listed-wordsFrom s m .stands i l) ∙ sym (wordNumber-is s m i l)
+    ap asNumber (listed-wordsFrom s m .stands i l) ∙ sym (wordNumber-is s m i l)
 
 after-0 : (s : State) (m i : ℕ) → i < count (step s false) m → wordNumber s (suc m) i ≡ wordNumber (step s false) m i
 after-0 s m i h = rw (lt-ltb i (count (step s false) m) h)

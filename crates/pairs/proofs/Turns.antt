@@ -14,7 +14,7 @@ use borrow.Author.Tests.{lt-ltb, le-ltb}
 use Rattle.reply.specs.Reply.{served}
 use Rattle.poly.proofs.Binary.{add-xor, bit-scale}
 use Rattle.euclid.specs.Chain.{Pair}
-use Rattle.pairs.specs.Words.{s10, words, number}
+use Rattle.pairs.specs.Words.{s10, words, asNumber}
 use Rattle.pairs.specs.Sequences.{bit, compositions, block}
 use Rattle.pairs.specs.Pairs.{build}
 use Rattle.pairs.specs.Replies.{pairReply}
@@ -171,7 +171,7 @@ module _ (n k place : ℕ) (two : 2 ≤ k) (le : k ≤ n) (fits : place < length
   pub some-word : (w : ℕ) → w ≡ length (words k) → 0 < w
   some-word w e = rw (e, listed-words k .long) (omega (arith, word-index n k place in-block))
 
-  read : (w word : ℕ) → w ≡ count s10 k → word ≡ number (getD (words k) (place % w) [])
+  read : (w word : ℕ) → w ≡ count s10 k → word ≡ asNumber (getD (words k) (place % w) [])
       → letters k word ≡ wordAt s10 k (place % count s10 k)
   read w word ew is =
       let v : ℕ = place % count s10 k in
@@ -180,7 +180,7 @@ module _ (n k place : ℕ) (two : 2 ≤ k) (le : k ≤ n) (fits : place < length
       rw (is, at) (rw (wordAt-known s10 k v l .long) at (letters-number (wordAt s10 k v)))
 
   pub first-turn : (c w word : ℕ) → n ≤ 31 → c ≡ length (compositions n k) → w ≡ length (words k)
-      → word ≡ number (getD (words k) (place % w) [])
+      → word ≡ asNumber (getD (words k) (place % w) [])
       → Between n word (place / w) (walkIn n k place) (place / w / 2 ^ (n - k)) c (n - 1) (k - 1) 1 0 1
   unfolding walkIn
   first-turn c w word few ec ew is =

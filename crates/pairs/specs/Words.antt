@@ -57,7 +57,7 @@ unfoldable pub tabled : ℕ → ℕ
 tabled k = cond (ltb k 32) (length (words k)) 0
 
 -- A word as a binary number, first letter highest, as the readers of words give it.
-abbrev pub number : List Bool → ℕ
-number [] = 0
-number (false ∷ w) = number w
-number (true ∷ w) = 2 ^ length w + number w
+abbrev pub asNumber : List Bool → ℕ
+asNumber [] = 0
+asNumber (false ∷ w) = asNumber w
+asNumber (true ∷ w) = 2 ^ length w + asNumber w

@@ -5,14 +5,14 @@ ghost use mathlib.Core.List.{[]};
 ghost use mathlib.Core.Path.{_≡_};
 ghost use Prim.Native.Nat.{_≤_, _<_};
 ghost use lib.ListN.{length, getD};
-ghost use Rattle.pairs.specs.Words.{s10, s11, s01, wordsFrom, number};
+ghost use Rattle.pairs.specs.Words.{s10, s11, s01, wordsFrom, asNumber};
 
 // The word at index i of the `count` words of m letters that lead from (1,0) to (1,0). Those that begin with 0 come first.
 pub(crate) fn from10(m: u32, i: u64, count: u64) -> u32
     requires { ⌜ m ≤ 31 ⌝ }
     requires { ⌜ count ≡ length (wordsFrom s10 m) ⌝ }
     requires { ⌜ i < count ⌝ }
-    ensures { λ r. ⌜ r ≡ number (getD (wordsFrom s10 m) i []) ⌝ }
+    ensures { λ r. ⌜ r ≡ asNumber (getD (wordsFrom s10 m) i []) ⌝ }
 {
     if m == 0 {
         return 0;
@@ -31,7 +31,7 @@ fn from11(m: u32, i: u64, count: u64) -> u32
     requires { ⌜ m ≤ 31 ⌝ }
     requires { ⌜ count ≡ length (wordsFrom s11 m) ⌝ }
     requires { ⌜ i < count ⌝ }
-    ensures { λ r. ⌜ r ≡ number (getD (wordsFrom s11 m) i []) ⌝ }
+    ensures { λ r. ⌜ r ≡ asNumber (getD (wordsFrom s11 m) i []) ⌝ }
 {
     let rest = m - 1;
     let zeros = (1u64 << rest) - count;
@@ -46,7 +46,7 @@ fn from01(m: u32, i: u64, count: u64) -> u32
     requires { ⌜ m ≤ 31 ⌝ }
     requires { ⌜ count ≡ length (wordsFrom s01 m) ⌝ }
     requires { ⌜ i < count ⌝ }
-    ensures { λ r. ⌜ r ≡ number (getD (wordsFrom s01 m) i []) ⌝ }
+    ensures { λ r. ⌜ r ≡ asNumber (getD (wordsFrom s01 m) i []) ⌝ }
 {
     let rest = m - 1;
     let half = count / 2;

@@ -12,7 +12,7 @@ use Rattle.poly.specs.Code.{degree}
 use Rattle.pairs.specs.Loops.{numbers, each}
 use Rattle.pairs.specs.Words.{s10, leads, words, wordsFrom}
 use Rattle.pairs.specs.Sequences.{bits, compositions, block, sequences}
-use Rattle.positions.specs.Ranking.{StandsAt, digits, Parts}
+use Rattle.positions.specs.Ranking.{StandsAt, lastLetters, Parts}
 use Rattle.pairs.proofs.Valid.{Valid}
 use Rattle.pairs.proofs.Loops.{before}
 use Rattle.pairs.proofs.Words.{count, length-words}
@@ -27,12 +27,12 @@ use Rattle.positions.proofs.Ranking.{word-rank, composition-rank, seque
 module _ {n k : ℕ} {qs : List ℕ} (valid : Valid n qs) (long : length qs ≡ k) where
   -- ---- bits and word that give the quotients back are those of the sequence
   module _ {b y : ℕ} (read : Parts qs b y) where
-    known : Known (map (degree 2) qs) b (digits k y) qs
+    known : Known (map (degree 2) qs) b (lastLetters k y) qs
     known =
-        rw (rw long at (read .give)) at (quotients-parts (map (degree 2) qs) b (digits k y) (valid .positive) (read .fit)
+        rw (rw long at (read .give)) at (quotients-parts (map (degree 2) qs) b (lastLetters k y) (valid .positive) (read .fit)
         (length-digits k y ∙ sym (length-map qs (degree 2) ∙ long)))
 
-    pub word-leads : leads s10 (digits k y) ≡ true
+    pub word-leads : leads s10 (lastLetters k y) ≡ true
     word-leads = rw (known .word) at (valid .word)
 
     module _ (small : n < 32) {c : ℕ} (composition : StandsAt (compositions n k) c (map (degree 2) qs)) where
@@ -55,7 +55,7 @@ module _ {n k : ℕ} {qs : List ℕ} (valid : Valid n qs) (long : length qs ≡ 
           ))
 
       module _ {size v w : ℕ} (sized : size ≡ length (each (numbers 2 (k - 2)) (block n)))
-          (word : StandsAt (wordsFrom s10 k) v (digits k y)) (counted : w ≡ length (words k)) where
+          (word : StandsAt (wordsFrom s10 k) v (lastLetters k y)) (counted : w ≡ length (words k)) where
         position-is : size + (c * 2 ^ (n - k) % 2 ^ 64 + b) * w + v ≡ sequenceRank n qs
         unfolding sequenceRank blockRank
         position-is =
@@ -69,7 +69,7 @@ module _ {n k : ℕ} {qs : List ℕ} (valid : Valid n qs) (long : length qs ≡ 
               composition-rank n k c (map (degree 2) qs) composition,
               known .between,
               known .word,
-              word-rank s10 k v (digits k y) word,
+              word-rank s10 k v (lastLetters k y) word,
             )
             (add-assoc (before (blockSize n) 2 (k - 2)) ((c * 2 ^ (n - k) + b) * count s10 k) v)
 

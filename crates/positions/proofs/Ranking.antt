@@ -13,7 +13,7 @@ use borrow.Author.Tests.{eq-eqb, ne-eqb}
 use Rattle.pairs.specs.Counts.{sum}
 use Rattle.pairs.specs.Words.{State, s10, s11, s01, step, leads, wordsFrom}
 use Rattle.pairs.specs.Sequences.{compositions, sequences}
-use Rattle.positions.specs.Ranking.{StandsAt, Among, digits, backwards}
+use Rattle.positions.specs.Ranking.{StandsAt, Among, lastLetters, backwards}
 use Rattle.pairs.proofs.Valid.{EachPositive, Valid}
 use Rattle.pairs.proofs.Words.{count, count-suc, wordRank, length-words, listed-wordsFrom, WordAt, wordAt-known, wordRank-lt, wordAt-rank}
 use Rattle.pairs.proofs.Compositions.{
@@ -53,41 +53,42 @@ word-stands s m r w k =
 pub word-rank : (s : State) (m r : ℕ) (w : List Bool) → StandsAt (wordsFrom s m) r w → wordRank s w ≡ r
 word-rank s m r w k = word-known s m r w k .rank
 
-pub length-digits : (m x : ℕ) → length (digits m x) ≡ m
+pub length-digits : (m x : ℕ) → length (lastLetters m x) ≡ m
 length-digits zero x = refl
 length-digits (suc m) x = ap suc (length-digits m x)
 
 -- Where a word leads there, there is one.
-pub word-below : (s : State) (m x : ℕ) → leads s (digits m x) ≡ true → wordRank s (digits m x) < length (wordsFrom s m)
-word-below s m x k = rw length-words (rw (length-digits m x) at (wordRank-lt s (digits m x) k))
+pub word-below : (s : State) (m x : ℕ) → leads s (lastLetters m x) ≡ true → wordRank s (lastLetters m x) < length (wordsFrom s m)
+word-below s m x k = rw length-words (rw (length-digits m x) at (wordRank-lt s (lastLetters m x) k))
 
 -- A reader at a number's first letter.
 module _ (s : State) (m x : ℕ) where
   module _ (letter : x / 2 ^ m % 2 ≡ 0) where
-    digits-zero : digits (suc m) x ≡ false ∷ digits m x
-    digits-zero = ap (λ l. l ∷ digits m x) (ne-eqb (x / 2 ^ m % 2) 1 (λ e. omega arith))
+    digits-zero : lastLetters (suc m) x ≡ false ∷ lastLetters m x
+    digits-zero = ap (λ l. l ∷ lastLetters m x) (ne-eqb (x / 2 ^ m % 2) 1 (λ e. omega arith))
 
-    leads-zero : leads s (digits (suc m) x) ≡ true → leads (step s false) (digits m x) ≡ true
+    leads-zero : leads s (lastLetters (suc m) x) ≡ true → leads (step s false) (lastLetters m x) ≡ true
     leads-zero k = rw digits-zero at k
 
-    stands-zero : (r : ℕ) → StandsAt (wordsFrom (step s false) m) r (digits m x) → StandsAt (wordsFrom s (suc m)) r (digits (suc m) x)
-    stands-zero r k = rw digits-zero (word-stands s (suc m) r _ (go (word-known (step s false) m r (digits m x) k)))
+    stands-zero : (r : ℕ) → StandsAt (wordsFrom (step s false) m) r (lastLetters m x)
+        → StandsAt (wordsFrom s (suc m)) r (lastLetters (suc m) x)
+    stands-zero r k = rw digits-zero (word-stands s (suc m) r _ (go (word-known (step s false) m r (lastLetters m x) k)))
       where
-        go : WordAt (step s false) m r (digits m x) → WordAt s (suc m) r (false ∷ digits m x)
+        go : WordAt (step s false) m r (lastLetters m x) → WordAt s (suc m) r (false ∷ lastLetters m x)
         go w = record { long = ap suc (w .long); ends = w .ends; rank = w .rank }
 
   module _ (letter : x / 2 ^ m % 2 ≡ 0 → ⊥) where
-    digits-one : digits (suc m) x ≡ true ∷ digits m x
-    digits-one = ap (λ l. l ∷ digits m x) (eq-eqb (x / 2 ^ m % 2) 1 (omega arith))
+    digits-one : lastLetters (suc m) x ≡ true ∷ lastLetters m x
+    digits-one = ap (λ l. l ∷ lastLetters m x) (eq-eqb (x / 2 ^ m % 2) 1 (omega arith))
 
-    leads-one : leads s (digits (suc m) x) ≡ true → leads (step s true) (digits m x) ≡ true
+    leads-one : leads s (lastLetters (suc m) x) ≡ true → leads (step s true) (lastLetters m x) ≡ true
     leads-one k = rw digits-one at k
 
-    stands-one : (r : ℕ) → StandsAt (wordsFrom (step s true) m) r (digits m x)
-        → StandsAt (wordsFrom s (suc m)) (length (wordsFrom (step s false) m) + r) (digits (suc m) x)
-    stands-one r k = rw (digits-one, length-words) (word-stands s (suc m) _ _ (go (word-known (step s true) m r (digits m x) k)))
+    stands-one : (r : ℕ) → StandsAt (wordsFrom (step s true) m) r (lastLetters m x)
+        → StandsAt (wordsFrom s (suc m)) (length (wordsFrom (step s false) m) + r) (lastLetters (suc m) x)
+    stands-one r k = rw (digits-one, length-words) (word-stands s (suc m) _ _ (go (word-known (step s true) m r (lastLetters m x) k)))
       where
-        go : WordAt (step s true) m r (digits m x) → WordAt s (suc m) (count (step s false) m + r) (true ∷ digits m x)
+        go : WordAt (step s true) m r (lastLetters m x) → WordAt s (suc m) (count (step s false) m + r) (true ∷ lastLetters m x)
         go w = record { long = ap suc (w .long); ends = w .ends; rank = rw (w .long, w .rank) }
 
 -- The same for m letters, as code counts them: m - 1 are left.
@@ -95,24 +96,24 @@ module _ (s : State) (m x : ℕ) (some : m ≡ 0 → ⊥) where
   up : suc (m - 1) ≡ m
   up = omega arith
 
-  pub reads-zero : x / 2 ^ (m - 1) % 2 ≡ 0 → leads s (digits m x) ≡ true → leads (step s false) (digits (m - 1) x) ≡ true
-  reads-zero e k = leads-zero s (m - 1) x e (subst (λ (v : ℕ). leads s (digits v x) ≡ true) (sym up) k)
+  pub reads-zero : x / 2 ^ (m - 1) % 2 ≡ 0 → leads s (lastLetters m x) ≡ true → leads (step s false) (lastLetters (m - 1) x) ≡ true
+  reads-zero e k = leads-zero s (m - 1) x e (subst (λ (v : ℕ). leads s (lastLetters v x) ≡ true) (sym up) k)
 
-  pub reads-one : (x / 2 ^ (m - 1) % 2 ≡ 0 → ⊥) → leads s (digits m x) ≡ true → leads (step s true) (digits (m - 1) x) ≡ true
-  reads-one e k = leads-one s (m - 1) x e (subst (λ (v : ℕ). leads s (digits v x) ≡ true) (sym up) k)
+  pub reads-one : (x / 2 ^ (m - 1) % 2 ≡ 0 → ⊥) → leads s (lastLetters m x) ≡ true → leads (step s true) (lastLetters (m - 1) x) ≡ true
+  reads-one e k = leads-one s (m - 1) x e (subst (λ (v : ℕ). leads s (lastLetters v x) ≡ true) (sym up) k)
 
-  pub ranks-zero : {r : ℕ} → x / 2 ^ (m - 1) % 2 ≡ 0 → StandsAt (wordsFrom (step s false) (m - 1)) r (digits (m - 1) x)
-      → StandsAt (wordsFrom s m) r (digits m x)
-  ranks-zero {r} e k = subst (λ (v : ℕ). StandsAt (wordsFrom s v) r (digits v x)) up (stands-zero s (m - 1) x e r k)
+  pub ranks-zero : {r : ℕ} → x / 2 ^ (m - 1) % 2 ≡ 0 → StandsAt (wordsFrom (step s false) (m - 1)) r (lastLetters (m - 1) x)
+      → StandsAt (wordsFrom s m) r (lastLetters m x)
+  ranks-zero {r} e k = subst (λ (v : ℕ). StandsAt (wordsFrom s v) r (lastLetters v x)) up (stands-zero s (m - 1) x e r k)
 
   pub ranks-one : {n r : ℕ} → (x / 2 ^ (m - 1) % 2 ≡ 0 → ⊥) → n ≡ length (wordsFrom (step s false) (m - 1))
-      → StandsAt (wordsFrom (step s true) (m - 1)) r (digits (m - 1) x) → StandsAt (wordsFrom s m) (n + r) (digits m x)
+      → StandsAt (wordsFrom (step s true) (m - 1)) r (lastLetters (m - 1) x) → StandsAt (wordsFrom s m) (n + r) (lastLetters m x)
   ranks-one {n} {r} e is k =
-      rw is (subst (λ (v : ℕ). StandsAt (wordsFrom s v) (length (wordsFrom (step s false) (m - 1)) + r) (digits v x)) up
+      rw is (subst (λ (v : ℕ). StandsAt (wordsFrom s v) (length (wordsFrom (step s false) (m - 1)) + r) (lastLetters v x)) up
       (stands-one s (m - 1) x e r k))
 
 -- No letters are left.
-pub ranks-none : (s : State) (m x : ℕ) → m ≡ 0 → leads s (digits m x) ≡ true → StandsAt (wordsFrom s m) 0 (digits m x)
+pub ranks-none : (s : State) (m x : ℕ) → m ≡ 0 → leads s (lastLetters m x) ≡ true → StandsAt (wordsFrom s m) 0 (lastLetters m x)
 ranks-none s m x e k = rw e (word-stands s 0 0 [] (record { long = refl; ends = rw e at k; rank = refl }))
 
 -- A place among at most 31 letters' words fits a register.

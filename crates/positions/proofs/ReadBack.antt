@@ -13,9 +13,9 @@ use Rattle.poly.specs.Code.{degree}
 use Rattle.poly.proofs.Shifts.{one-shl}
 use Rattle.pairs.specs.Counts.{sum}
 use Rattle.pairs.specs.Sequences.{bits, bit}
-use Rattle.positions.specs.Ranking.{digits, Parts}
+use Rattle.positions.specs.Ranking.{lastLetters, Parts}
 use Rattle.pairs.proofs.Valid.{EachPositive, constant, Valid}
-use Rattle.pairs.specs.Words.{number}
+use Rattle.pairs.specs.Words.{asNumber}
 use Rattle.pairs.proofs.Letters.{number-lt, letters, letters-number, numberFrom, numberFrom-is}
 use Rattle.pairs.proofs.Quotients.{middle, middle-lt, middleFrom, middleFrom-is, quotients-of-parts, bit-constant, code-has}
 use Rattle.pairs.proofs.Compositions.{parts, pascal, parts-share, compositionRank}
@@ -25,13 +25,14 @@ use Rattle.pairs.proofs.Binomial.{down-whole}
 use Rattle.pairs.proofs.Bounds.{choose-times-lt}
 
 -- ---- intermediate bits and word
-digits-letters : (m x : ℕ) → digits m x ≡ letters m x
+digits-letters : (m x : ℕ) → lastLetters m x ≡ letters m x
 digits-letters zero x = refl
 digits-letters (suc m) x = ap (_∷_ (constant (x / 2 ^ m))) (digits-letters m x)
 
-digits-word : (qs : List ℕ) → digits (length qs) (number (map constant qs)) ≡ map constant qs
+digits-word : (qs : List ℕ) → lastLetters (length qs) (asNumber (map constant qs)) ≡ map constant qs
 digits-word qs =
-    rw (length-map qs constant) at (digits-letters (length (map constant qs)) (number (map constant qs)) ∙ letters-number (map constant qs))
+    rw (length-map qs constant) at
+    (digits-letters (length (map constant qs)) (asNumber (map constant qs)) ∙ letters-number (map constant qs))
 
 grows : (x b : ℕ) → x ≤ x * 2 ^ b
 grows x b = rw (mul-one x) at (mul-le-mul-left x (pow-pos b))
@@ -47,7 +48,7 @@ pub record Read (all : List ℕ) (x y : ℕ) (rest : List ℕ) : Type 0 where
   pub positive : EachPositive (map (degree 2) rest)
   pub total : sum (map (degree 2) rest) < 32
   pub between : middleFrom x rest ≡ middle all
-  pub word : numberFrom y (map constant rest) ≡ number (map constant all)
+  pub word : numberFrom y (map constant rest) ≡ asNumber (map constant all)
 
 -- One quotient q of degree d more, as code computes it.
 pub record Turn (all : List ℕ) (x y q d : ℕ) (rest : List ℕ) : Type 0 where
@@ -91,7 +92,7 @@ module _ {n : ℕ} {all : List ℕ} (valid : Valid n all) where
     letter : y * 2 + bit (constant q) ≡ 2 * y + q % 2
     letter = omega (arith, bit-constant q)
 
-    word-fits : number (map constant all) < 2 ^ 31
+    word-fits : asNumber (map constant all) < 2 ^ 31
     word-fits =
         omega (
           arith,

@@ -19,9 +19,9 @@ abbrev pub Among : {A : Type 0} → List (List A) → List A → Type 0
 Among xs x = (r : ℕ) × StandsAt xs r x
 
 -- The word of m letters that are the last m binary digits of a number, the first letter highest.
-abbrev pub digits : ℕ → ℕ → List Bool
-digits zero x = []
-digits (suc m) x = eqb (x / 2 ^ m % 2) 1 ∷ digits m x
+abbrev pub lastLetters : ℕ → ℕ → List Bool
+lastLetters zero x = []
+lastLetters (suc m) x = eqb (x / 2 ^ m % 2) 1 ∷ lastLetters m x
 
 -- The entries k to 1 of a chain: its quotients from the last one on, without the leading one.
 abbrev pub backwards : List ℕ → ℕ → List ℕ
@@ -35,4 +35,4 @@ Sequence qs = (n : ℕ) × (n < 32) × Among (sequences n) qs
 -- The quotients have the intermediate bits b and the word x, each as a number.
 pub record Parts (qs : List ℕ) (b x : ℕ) : Type 0 where
   pub fit : b < 2 ^ bits (map (degree 2) qs)
-  pub give : quotients (map (degree 2) qs) b (digits (length qs) x) ≡ qs
+  pub give : quotients (map (degree 2) qs) b (lastLetters (length qs) x) ≡ qs

@@ -5,14 +5,14 @@ ghost use mathlib.Core.Bool.{true};
 ghost use Prim.Native.Nat.{_<_};
 ghost use lib.ListN.{length};
 ghost use Rattle.pairs.specs.Words.{s10, s11, s01, leads, wordsFrom};
-ghost use Rattle.positions.specs.Ranking.{StandsAt, digits};
+ghost use Rattle.positions.specs.Ranking.{StandsAt, lastLetters};
 
 // The word is the last m binary digits of x. From (1,0): 0 goes to (0,1), 1 to (1,1).
 pub(crate) fn rank10(m: usize, x: u32, count: u64) -> u64
     requires short { ⌜ m < 32 ⌝ }
     requires all { ⌜ count ≡ length (wordsFrom s10 m) ⌝ }
-    requires word { ⌜ leads s10 (digits m x) ≡ true ⌝ }
-    ensures { λ r. ⌜ StandsAt (wordsFrom s10 m) r (digits m x) ⌝ }
+    requires word { ⌜ leads s10 (lastLetters m x) ≡ true ⌝ }
+    ensures { λ r. ⌜ StandsAt (wordsFrom s10 m) r (lastLetters m x) ⌝ }
 {
     if m == 0 {
         return 0;
@@ -30,8 +30,8 @@ pub(crate) fn rank10(m: usize, x: u32, count: u64) -> u64
 fn rank11(m: usize, x: u32, count: u64) -> u64
     requires short { ⌜ m < 32 ⌝ }
     requires all { ⌜ count ≡ length (wordsFrom s11 m) ⌝ }
-    requires word { ⌜ leads s11 (digits m x) ≡ true ⌝ }
-    ensures { λ r. ⌜ StandsAt (wordsFrom s11 m) r (digits m x) ⌝ }
+    requires word { ⌜ leads s11 (lastLetters m x) ≡ true ⌝ }
+    ensures { λ r. ⌜ StandsAt (wordsFrom s11 m) r (lastLetters m x) ⌝ }
 {
     let rest = m - 1;
     let zeros = (1u64 << rest) - count;
@@ -45,8 +45,8 @@ fn rank11(m: usize, x: u32, count: u64) -> u64
 fn rank01(m: usize, x: u32, count: u64) -> u64
     requires short { ⌜ m < 32 ⌝ }
     requires all { ⌜ count ≡ length (wordsFrom s01 m) ⌝ }
-    requires word { ⌜ leads s01 (digits m x) ≡ true ⌝ }
-    ensures { λ r. ⌜ StandsAt (wordsFrom s01 m) r (digits m x) ⌝ }
+    requires word { ⌜ leads s01 (lastLetters m x) ≡ true ⌝ }
+    ensures { λ r. ⌜ StandsAt (wordsFrom s01 m) r (lastLetters m x) ⌝ }
 {
     let rest = m - 1;
     let half = count / 2;

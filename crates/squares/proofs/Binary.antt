@@ -14,7 +14,7 @@ use Rattle.poly.proofs.Ring
 use Rattle.poly.proofs.Blocks
 use Rattle.poly.proofs.Binary.{add-xor}
 use Rattle.poly.specs.Code.{digit, add}
-use Rattle.squares.specs.Symbols.{number, sum, line, outputCell, symbol}
+use Rattle.squares.specs.Symbols.{fromDigits, sumBelow, line, outputCell, symbol}
 use Rattle.squares.specs.Lines.{atSite, Moved}
 use Rattle.squares.proofs.Codes
 use Rattle.squares.proofs.Places
@@ -37,7 +37,7 @@ ones-and-step a b =
 
 -- the ones that two numbers share, from their k low bits h and c, where the first has no others
 ones-and : (k : ℕ) {a : ℕ} (b : ℕ) (h c : ℕ → ℕ) → a < 2 ^ k → ((j : ℕ) → j < k → h j ≡ digit 2 a j)
-    → ((j : ℕ) → j < k → c j ≡ digit 2 b j) → ones (bitAnd a b) ≡ sum k (λ j. h j * c j)
+    → ((j : ℕ) → j < k → c j ≡ digit 2 b j) → ones (bitAnd a b) ≡ sumBelow k (λ j. h j * c j)
 unfolding ones
 ones-and zero {a} b h c lt e e′ = let none : a ≡ 0 = omega arith in rw none
 ones-and (suc k) {a} b h c lt e e′ =
@@ -48,7 +48,7 @@ ones-and (suc k) {a} b h c lt e e′ =
     (λ j l. e (suc j) (omega arith) ∙ Middle.digit-rest 2 (le-refl 2) a j)
     (λ j l. e′ (suc j) (omega arith) ∙ Middle.digit-rest 2 (le-refl 2) b j))
 
-number-equal : (k : ℕ) (h h′ : ℕ → ℕ) → ((i : ℕ) → i < k → h i ≡ h′ i) → number 2 k h ≡ number 2 k h′
+number-equal : (k : ℕ) (h h′ : ℕ → ℕ) → ((i : ℕ) → i < k → h i ≡ h′ i) → fromDigits 2 k h ≡ fromDigits 2 k h′
 number-equal zero h h′ e = refl
 number-equal (suc k) h h′ e = ap₂ (λ (u v : ℕ). u * 2 + v) (number-equal k h h′ (λ i l. e i (omega arith))) (e k (omega arith))
 
@@ -76,13 +76,13 @@ module _ (n row : ℕ) {f col : ℕ} (word : ℕ) (n-lt : n < 32) (f-lt : f < 2 
       (sym (ones-and (suc n) (word / 2 ^ i % 2 ^ 32) (digit 2 f) (λ j. getD (line 2 n row col) (i + j) 0) f-lt (λ j _. refl)
       (λ j h. cell i j l h)))
 
-  pub symbol-parities : symbol 2 n f row col ≡ number 2 n (parity f word)
+  pub symbol-parities : symbol 2 n f row col ≡ fromDigits 2 n (parity f word)
   unfolding symbol
   symbol-parities = number-equal n (outputCell 2 n f (line 2 n row col)) (parity f word) output-ones
 
 -- The symbol at a site given as one number, from that number in reverse without the places behind its 2n bits.
 pub site-parities : (n site : ℕ) {f reverse : ℕ} → n < 32 → f < 2 ^ suc n → Moved (λ i. 63 - i) site reverse
-    → atSite n f site ≡ number 2 n (parity f (reverse / 2 ^ (64 - 2 * n)))
+    → atSite n f site ≡ fromDigits 2 n (parity f (reverse / 2 ^ (64 - 2 * n)))
 site-parities n site {f} {reverse} n-lt f-lt moved =
     symbol-parities n (site / 2 ^ n) (reverse / 2 ^ (64 - 2 * n)) n-lt f-lt (mod-lt site (pow-pos n))
     (λ i l. let same : 63 - ((64 - 2 * n) + i) ≡ n + n - suc i = omega arith in

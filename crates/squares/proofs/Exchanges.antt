@@ -7,13 +7,13 @@ use native.Mathlib.Decide.{decLt}
 use native.Mathlib.Omega.{arith}
 use lib.Bits.{bitAnd, bitOr, and-mask, and-zero-r, or-zero-l, or-zero-r}
 use Rattle.poly.specs.Code.{digit}
-use Rattle.squares.specs.Symbols.{sum}
+use Rattle.squares.specs.Symbols.{sumBelow}
 use Rattle.squares.specs.Lines.{Moved, exchanged, Lower}
 use Rattle.squares.proofs.Middle.{div-pow}
 use Rattle.squares.proofs.Places.{digit-and, digit-or, digit-mod, digit-shl-high, digit-shl-low}
 
 -- ---- all places at once
-each-zero : (k : ℕ) (h : ℕ → ℕ) → sum k h ≡ 0 → (i : ℕ) → i < k → h i ≡ 0
+each-zero : (k : ℕ) (h : ℕ → ℕ) → sumBelow k h ≡ 0 → (i : ℕ) → i < k → h i ≡ 0
 each-zero zero h e i l = absurd (omega arith)
 each-zero (suc k) h e zero l = omega arith
 each-zero (suc k) h e (suc i) l = each-zero k (λ j. h (suc j)) (omega arith) i (omega arith)
@@ -30,12 +30,12 @@ faultless {width} {low} at =
     let first = at 0 (omega arith) in
     record { some = omega arith; few = omega arith; bit = λ i l. let z = at i l in omega arith }
 
-pub lower : {width low : ℕ} → sum 64 (fault width low) ≡ 0 → Lower width low
+pub lower : {width low : ℕ} → sumBelow 64 (fault width low) ≡ 0 → Lower width low
 lower {width} {low} e = faultless (each-zero 64 (fault width low) e)
 
 -- ---- one exchange after others, which takes no bit from outside
 abbrev pub outside : ℕ → ℕ
-outside width = sum 64 (λ i. suc (exchanged width i) - 64)
+outside width = sumBelow 64 (λ i. suc (exchanged width i) - 64)
 
 pub after : {from : ℕ → ℕ} {x y z : ℕ} (width : ℕ) → outside width ≡ 0
     → Moved from x y → Moved (exchanged width) y z → Moved (λ i. from (exchanged width i)) x z

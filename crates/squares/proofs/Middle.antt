@@ -15,7 +15,7 @@ use Rattle.poly.proofs.Ring
 use Rattle.poly.proofs.Blocks
 use Rattle.squares.proofs.Codes
 use Rattle.poly.specs.Code.{digit}
-use Rattle.squares.specs.Symbols.{digits, number, sum, outputCell, symbol}
+use Rattle.squares.specs.Symbols.{digits, fromDigits, sumBelow, outputCell, symbol}
 
 -- digits n to 2n - 1 of a number
 abbrev pub middle : ℕ → ℕ → ℕ → ℕ
@@ -98,14 +98,14 @@ module _ (p : ℕ) (p2 : 2 ≤ p) where
       (sym (Nat.add-mod-mod _ _ p))
 
   product-rest : (n f i m X : ℕ)
-      → sum n (λ j. digit p f (suc j) * getD (digits p m X) (i + suc j) 0)
-      ≡ sum n (λ j. digit p (f / p) j * getD (digits p m X) (suc i + j) 0)
+      → sumBelow n (λ j. digit p f (suc j) * getD (digits p m X) (i + suc j) 0)
+      ≡ sumBelow n (λ j. digit p (f / p) j * getD (digits p m X) (suc i + j) 0)
   product-rest n f i m X =
-      ap (sum n)
+      ap (sumBelow n)
       (fun-ext (λ j. ap₂ _*_ (digit-rest f j) (ap (λ (v : ℕ). getD (digits p m X) v 0) (Nat.add-suc i j ∙ sym (Nat.suc-add i j)))))
 
   product-digit : (n f i k m X : ℕ) → f < p ^ n → n ≤ suc k → i + suc k ≡ m
-      → sum n (λ j. digit p f j * getD (digits p m X) (i + j) 0) % p ≡ digit p (mul p f X) k
+      → sumBelow n (λ j. digit p f j * getD (digits p m X) (i + j) 0) % p ≡ digit p (mul p f X) k
   product-digit zero f i k m X lt le e =
       let f-zero : f ≡ 0 = lt-one (rw (pow-zero p) at lt) in
       rw (f-zero, Ring.mul-zero-left p p2 X, Nat.zero-div (p ^ k))
@@ -118,14 +118,14 @@ module _ (p : ℕ) (p2 : 2 ≤ p) where
       ∙ product-digit n (f / p) (suc i) k m X (Nat.div-lt-iff-lt-mul (p-pos p p2) .1 (rw (pow-suc p n) at lt)) (omega arith) (omega arith)
       ∙ sym (digit-shift (mul p (f / p) X) k))
 
-  number-is : (k a : ℕ) (h : ℕ → ℕ) → ((i : ℕ) → i < k → h i ≡ digit p a (k - suc i)) → number p k h ≡ a % p ^ k
+  number-is : (k a : ℕ) (h : ℕ → ℕ) → ((i : ℕ) → i < k → h i ≡ digit p a (k - suc i)) → fromDigits p k h ≡ a % p ^ k
   number-is zero a h e = rw (pow-zero p) (sym (Nat.mod-one a))
   number-is (suc k) a h e =
       ap₂ (λ (u v : ℕ). u * p + v) (number-is k (a / p) h (λ i l. e i (omega arith) ∙ digit-before k a i l))
       (e k (omega arith) ∙ digit-last k a)
       ∙ rw (pow-suc p k) (sym (mod-mul a (Blocks.pow-pos p p2 k) (p-pos p p2)))
 
-  pub number-lt : (k : ℕ) (h : ℕ → ℕ) → ((i : ℕ) → h i < p) → number p k h < p ^ k
+  pub number-lt : (k : ℕ) (h : ℕ → ℕ) → ((i : ℕ) → h i < p) → fromDigits p k h < p ^ k
   number-lt zero h small = Blocks.pow-pos p p2 0
   number-lt (suc k) h small = rw (pow-suc p k) (digits-lt (number-lt k h small) (small k))
 

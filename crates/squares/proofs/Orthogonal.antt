@@ -98,7 +98,7 @@ module _ (p : ℕ) (p2 : 2 ≤ p) (inverses : HasInverses p) (n : ℕ) where
 
         low-lt : low < p ^ n
         low-lt =
-            let (has-q, sum) = Codes.factor-degree p p2 inverses q has-d (rw (← qd) at has-f) in
+            let (has-q, sumBelow) = Codes.factor-degree p p2 inverses q has-d (rw (← qd) at has-f) in
             let degrees : n ≡ e + degree p q = omega arith in
             rw (Ring.mul-comm p p2 q (scale p (p - 1) r), degrees)
             (Blocks.mul-lt p p2 e (degree p q) (Blocks.scale-lt p p2 e (p - 1) (divided .small)) (has-q .high))

@@ -12,23 +12,23 @@ use lib.Pow.{pow-pos, pow-add}
 use lib.Seq.{getD-append-add}
 use Rattle.squares.specs.Squares.{Square}
 use Rattle.squares.specs.Symbols.{symbol}
-use Rattle.squares.specs.Sheets.{each, siteBytes, rowBytes, sheet}
+use Rattle.squares.specs.Sheets.{eachBelow, siteBytes, rowBytes, sheet}
 use Rattle.squares.specs.Replies.{sheetOf}
 
 module _ (h : ℕ → List ℕ) (w : ℕ) (width : (i : ℕ) → length (h i) ≡ w) where
-  each-length : (k : ℕ) → length (each k h) ≡ k * w
+  each-length : (k : ℕ) → length (eachBelow k h) ≡ k * w
   each-length zero = sym (Nat.zero-mul w)
-  each-length (suc k) = length-append (each k h) (h k) ∙ rw (each-length k, width k) (sym (Nat.suc-mul k w))
+  each-length (suc k) = length-append (eachBelow k h) (h k) ∙ rw (each-length k, width k) (sym (Nat.suc-mul k w))
 
-  each-at : {j : ℕ} → j < w → (k i : ℕ) → i < k → getD (each k h) (i * w + j) 0 ≡ getD (h i) j 0
+  each-at : {j : ℕ} → j < w → (k i : ℕ) → i < k → getD (eachBelow k h) (i * w + j) 0 ≡ getD (h i) j 0
   each-at hj zero i l = absurd (omega arith)
   each-at {j} hj (suc k) i l = go (each-at hj k i) (eq-or-lt-of-le (le-of-suc-le-suc l))
     where
-      go : (i < k → getD (each k h) (i * w + j) 0 ≡ getD (h i) j 0) → (i ≡ k) ⊎ (i < k)
-          → getD (each k h ++ h k) (i * w + j) 0 ≡ getD (h i) j 0
-      go ih (inl e) = rw (e, ← each-length k) (getD-append-add (each k h) (h k) j 0)
+      go : (i < k → getD (eachBelow k h) (i * w + j) 0 ≡ getD (h i) j 0) → (i ≡ k) ⊎ (i < k)
+          → getD (eachBelow k h ++ h k) (i * w + j) 0 ≡ getD (h i) j 0
+      go ih (inl e) = rw (e, ← each-length k) (getD-append-add (eachBelow k h) (h k) j 0)
       go ih (inr less) =
-          List·getD-append (each k h) (h k) 0 (i * w + j) (rw (each-length k) (digits-lt less hj)) ∙ ih less
+          List·getD-append (eachBelow k h) (h k) 0 (i * w + j) (rw (each-length k) (digits-lt less hj)) ∙ ih less
 
 module _ (N : ℕ) (first second : Square) where
   row-length : (row : ℕ) → length (rowBytes N first second row) ≡ N * 2

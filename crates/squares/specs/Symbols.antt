@@ -11,14 +11,14 @@ digits p zero a = []
 digits p (suc k) a = digit p a k ∷ digits p k a
 
 -- The number with the digits h 0 to h (k - 1), highest first.
-abbrev pub number : ℕ → ℕ → (ℕ → ℕ) → ℕ
-number p zero h = 0
-number p (suc k) h = number p k h * p + h k
+abbrev pub fromDigits : ℕ → ℕ → (ℕ → ℕ) → ℕ
+fromDigits p zero h = 0
+fromDigits p (suc k) h = fromDigits p k h * p + h k
 
 -- h 0 + h 1 + .. + h (k - 1).
-abbrev pub sum : ℕ → (ℕ → ℕ) → ℕ
-sum zero h = 0
-sum (suc k) h = h 0 + sum k (λ j. h (suc j))
+abbrev pub sumBelow : ℕ → (ℕ → ℕ) → ℕ
+sumBelow zero h = 0
+sumBelow (suc k) h = h 0 + sumBelow k (λ j. h (suc j))
 
 -- A line has 2n cells: the digits of the row number, highest first, then those of the column number.
 abbrev pub line : ℕ → ℕ → ℕ → ℕ → List ℕ
@@ -26,8 +26,8 @@ line p n row col = digits p n row ++ digits p n col
 
 -- Output cell i: the sum modulo p of coefficient j times cell i + j, j from 0 to n. For p = 2: the parity of the ones.
 unfoldable pub outputCell : ℕ → ℕ → ℕ → List ℕ → ℕ → ℕ
-outputCell p n f cells i = sum (suc n) (λ j. digit p f j * getD cells (i + j) 0) % p
+outputCell p n f cells i = sumBelow (suc n) (λ j. digit p f j * getD cells (i + j) 0) % p
 
 -- Output cell 0 is the symbol's highest digit.
 unfoldable pub symbol : ℕ → ℕ → ℕ → Square
-symbol p n f row col = number p n (outputCell p n f (line p n row col))
+symbol p n f row col = fromDigits p n (outputCell p n f (line p n row col))

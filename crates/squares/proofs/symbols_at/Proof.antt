@@ -8,7 +8,7 @@ use borrow.Author.Needs.{needs}
 use lib.Bits.{bitAnd}
 use lib.Count.{ones}
 use lib.Pow.{pow-mono, shr-shr}
-use Rattle.squares.specs.Symbols.{number}
+use Rattle.squares.specs.Symbols.{fromDigits}
 use Rattle.squares.proofs.Binary.{parity, site-parities}
 use Rattle.squares.proofs.Middle.{number-lt}
 use Rattle.squares.proofs.symbols_at.Statement.{statement}
@@ -16,7 +16,7 @@ use Rattle.squares.proofs.symbols_at.Tie as tie
 
 -- the output cells of one code that are read
 record Read (code line i cells : ℕ) : Type 0 where
-  are : cells ≡ number 2 i (parity code line)
+  are : cells ≡ fromDigits 2 i (parity code line)
 
 more : {code line i cells rest : ℕ} → rest ≡ line / 2 ^ i → Read code line i cells
     → Read code line (i + 1) (cells * 2 + ones (bitAnd code (rest % 2 ^ 32)) % 2)

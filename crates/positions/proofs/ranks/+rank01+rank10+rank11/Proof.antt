@@ -9,7 +9,7 @@ use lib.ListN.{length}
 use borrow.Fn.Kinds.{In}
 use borrow.Fn.PlainCycle.{Measures, is, falls, and}
 use Rattle.pairs.specs.Words.{State, s10, s11, s01, step, leads, wordsFrom}
-use Rattle.positions.specs.Ranking.{StandsAt, digits}
+use Rattle.positions.specs.Ranking.{StandsAt, lastLetters}
 use Rattle.pairs.proofs.Reading.{from10-two, from11-two, from01-one}
 use Rattle.positions.proofs.Ranking.{word-below, reads-zero, reads-one, ranks-zero, ranks-one, ranks-none, word-place-lt}
 use Rattle.pairs.proofs.Shares.{Shares, power, shares01, fits10, shares10, fits11, shares11}
@@ -57,7 +57,7 @@ record Here (s : State) (t m x z o : ℕ) : Type 0 where
   measure : m ≡ t
   pos : 0 < m
   short : m < 32
-  word : leads s (digits m x) ≡ true
+  word : leads s (lastLetters m x) ≡ true
   shares : Shares s m z o
 
 module _ {s : State} {t m x z o : ℕ} (h : Here s t m x z o) where
@@ -66,26 +66,27 @@ module _ {s : State} {t m x z o : ℕ} (h : Here s t m x z o) where
 
   module _ (letter : x / 2 ^ (m - 1) % 2 ≡ 0) where
     asks-0 : (m - 1 < t)
-        × ((m - 1 < 32) × ((z ≡ length (wordsFrom (step s false) (m - 1))) × (leads (step s false) (digits (m - 1) x) ≡ true)))
+        × ((m - 1 < 32) × ((z ≡ length (wordsFrom (step s false) (m - 1))) × (leads (step s false) (lastLetters (m - 1) x) ≡ true)))
     asks-0 = (omega arith, (omega arith, (h .shares .zeros, reads-zero s m x some letter (h .word))))
 
-    gives-0 : {r : ℕ} → StandsAt (wordsFrom (step s false) (m - 1)) r (digits (m - 1) x) → StandsAt (wordsFrom s m) r (digits m x)
+    gives-0 : {r : ℕ} → StandsAt (wordsFrom (step s false) (m - 1)) r (lastLetters (m - 1) x) → StandsAt (wordsFrom s m) r (lastLetters m x)
     gives-0 = ranks-zero s m x some letter
 
   module _ (letter : x / 2 ^ (m - 1) % 2 ≡ 0 → ⊥) where
     asks-1 : (m - 1 < t)
-        × ((m - 1 < 32) × ((o ≡ length (wordsFrom (step s true) (m - 1))) × (leads (step s true) (digits (m - 1) x) ≡ true)))
+        × ((m - 1 < 32) × ((o ≡ length (wordsFrom (step s true) (m - 1))) × (leads (step s true) (lastLetters (m - 1) x) ≡ true)))
     asks-1 = (omega arith, (omega arith, (h .shares .ones, reads-one s m x some letter (h .word))))
 
-    gives-1 : {r : ℕ} → StandsAt (wordsFrom (step s true) (m - 1)) r (digits (m - 1) x) → StandsAt (wordsFrom s m) (z + r) (digits m x)
+    gives-1 : {r : ℕ} → StandsAt (wordsFrom (step s true) (m - 1)) r (lastLetters (m - 1) x)
+        → StandsAt (wordsFrom s m) (z + r) (lastLetters m x)
     gives-1 = ranks-one s m x some letter (h .shares .zeros)
 
-    sum-lt : {r : ℕ} → StandsAt (wordsFrom (step s true) (m - 1)) r (digits (m - 1) x) → z + r < 2 ^ 31
-    sum-lt {r} k = word-place-lt s m (z + r) (digits m x) (h .short) (gives-1 k)
+    sum-lt : {r : ℕ} → StandsAt (wordsFrom (step s true) (m - 1)) r (lastLetters (m - 1) x) → z + r < 2 ^ 31
+    sum-lt {r} k = word-place-lt s m (z + r) (lastLetters m x) (h .short) (gives-1 k)
 
 -- what a reader is given
 abbrev Given : State → ℕ → ℕ → ℕ → ℕ → Type 0
-Given s t m x count = (m ≡ t) × ((m < 32) × ((count ≡ length (wordsFrom s m)) × (leads s (digits m x) ≡ true)))
+Given s t m x count = (m ≡ t) × ((m < 32) × ((count ≡ length (wordsFrom s m)) × (leads s (lastLetters m x) ≡ true)))
 
 here : (s : State) (x : ℕ) {t m count : ℕ} (z o : ℕ) → Given s t m x count → 0 < m → Shares s m z o → Here s t m x z o
 here s x z o (e, (short, (long, word))) pos shares = record { measure = e; pos = pos; short = short; word = word; shares = shares }
