@@ -1,3 +1,4 @@
 pub mod Input
 pub mod Text
 pub mod Output
+pub mod Filling
