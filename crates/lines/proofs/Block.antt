@@ -2,7 +2,7 @@
 use mathlib.Core.Bool.{Bool, true, false}
 use mathlib.Core.List.{List, [], _∷_}
 use mathlib.Core.Path.{_≡_, refl, sym, ap, _∙_}
-use Prim.Native.Nat.{ℕ, _+_, _<_}
+use Prim.Native.Nat.{ℕ, _+_, _≤_, _<_}
 use native.Mathlib.Nat.{zero-add}
 use native.Mathlib.Omega.{arith}
 use borrow.Author.Tests.{leb-true}
@@ -16,7 +16,8 @@ use Rattle.listing.specs.Replies.{fromReply, fromContent}
 use Rattle.listing.proofs.From.{from-entries, from-many}
 use Rattle.lines.specs.Text.{replyLine}
 use Rattle.lines.specs.Output.{entryLine}
-use Rattle.lines.specs.Filling.{entryLines, lineFrom, linesFrom}
+use Rattle.lines.specs.Filling.{entryLines}
+use Rattle.lines.specs.Inner.{lineFrom, linesFrom}
 
 pub block-lines : (n position : ℕ) (out : List ℕ) (many i : ℕ) → fromReply n position (length out) ≡ served (many ∷ []) → i < many
     → lineFrom position (fromContent n position out) i ≡ entryLine n (position + i)
@@ -76,5 +77,7 @@ no-block n position {k} e = go (outside 1 31 n) refl (leb (listLength n) positio
   where
     go : (t : Bool) → outside 1 31 n ≡ t → (u : Bool) → leb (listLength n) position ≡ u → drop position (entryLines n) ≡ []
     go true off u h = rw off (drop-nil position)
-    go false on true h = drop-of-length-le (entryLines n) {i = position} (omega (arith, listed-entries n on .long, leb-true (listLength n) position h))
+    go false on true h =
+        let end : length (entryLines n) ≤ position = omega (arith, listed-entries n on .long, leb-true (listLength n) position h) in
+        drop-of-length-le (entryLines n) end
     go false on false h = absurd (let r = rw (on, h) at e in let z : _≡_ {A = ℕ} 0 1 = cc in omega arith)

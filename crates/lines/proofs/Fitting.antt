@@ -3,15 +3,16 @@
 use mathlib.Core.Path.{_≡_, refl, sym, ap, _∙_}
 use mathlib.Core.Bool.{Bool, true, false, cond}
 use mathlib.Core.List.{List, [], _∷_, _++_, append-nil, append-assoc}
-use Prim.Native.Nat.{ℕ, zero, suc, _+_, _-_, _≤_, _<_}
+use Prim.Native.Nat.{ℕ, zero, suc, _+_, _-_, _≤_}
 use native.Mathlib.Nat.{sub-zero, add-zero, add-assoc}
 use native.Mathlib.Omega.{arith}
-use borrow.Author.Tests.{le-leb, lt-leb, leb-true}
+use borrow.Author.Tests.{le-leb, leb-true}
 use lib.Dec.{leb}
 use lib.ListN.{length, take, drop, length-append, take-append-drop}
 use lib.Seq.{drop-drop}
 use Rattle.lines.specs.Text.{put, Puts}
-use Rattle.lines.specs.Filling.{joined, fitting, Adds}
+use Rattle.lines.specs.Filling.{joined, fitting}
+use Rattle.lines.specs.Inner.{Adds}
 use Rattle.lines.proofs.Putting.{length-put, puts-more}
 
 pub joined-append : (a b : List (List ℕ)) → joined (a ++ b) ≡ joined a ++ joined b
@@ -62,7 +63,8 @@ fitting-more (suc m) room (l ∷ lines) = go (leb (length l) room) refl (fitting
         cond t (l ∷ fitting (room - length l) lines) []
         ≡ some ++ fitting (room - length (joined some)) (drop (length some) (l ∷ lines))
     go true e ih =
-        let less : room - length l - length (joined front) ≡ room - length (l ++ joined front) = omega (arith, length-append l (joined front)) in
+        let all = length-append l (joined front) in
+        let less : room - length l - length (joined front) ≡ room - length (l ++ joined front) = omega arith in
         ap (_∷_ l) (rw less at ih)
     go false e ih = rw (sub-zero, e)
 
@@ -112,8 +114,8 @@ module _ (m : ℕ) (lines : List (List ℕ)) {position : ℕ} {out : List ℕ} {
   room-after : used₁ ≤ length out₁
   room-after = omega (arith, same, fits, a .bytes .next)
 
-  adds-more : (k : ℕ) {used₂ next₂ : ℕ} {out₂ : List ℕ} → next ≡ position + k → Adds (drop k lines) (position + k) out₁ used₁ used₂ next₂ out₂
-      → Adds lines position out used used₂ next₂ out₂
+  adds-more : (k : ℕ) {used₂ next₂ : ℕ} {out₂ : List ℕ} → next ≡ position + k
+      → Adds (drop k lines) (position + k) out₁ used₁ used₂ next₂ out₂ → Adds lines position out used used₂ next₂ out₂
   adds-more k {used₂} {next₂} {out₂} e q = record {
     bytes = rw (whole, joined-append front behind) (puts-more (rw (← joined-append front behind, ← whole) all) (a .bytes) (q .bytes));
     stop = rw whole (omega (arith, length-append front behind, q .stop, many));
@@ -148,7 +150,8 @@ pub record Begun (lines : List (List ℕ)) (position : ℕ) (out : List ℕ) (us
 pub begun : {lines : List (List ℕ)} {position : ℕ} {out : List ℕ} {used : ℕ} → used ≤ length out → Begun lines position out used 0 out used
 begun {lines} {position} {out} {used} h = record { kept = refl; room = h; rest = λ used′ next out′ a. rw add-zero at a }
 
-module _ (m : ℕ) {lines : List (List ℕ)} {position : ℕ} {out : List ℕ} {used done : ℕ} {out₁ : List ℕ} {used₁ used₂ next : ℕ} {out₂ : List ℕ}
+module _ (m : ℕ) {lines : List (List ℕ)} {position : ℕ} {out : List ℕ} {used done : ℕ} {out₁ : List ℕ} {used₁ used₂ next : ℕ}
+    {out₂ : List ℕ}
     (b : Begun lines position out used done out₁ used₁)
     (a : Adds (take m (drop done lines)) (position + done) out₁ used₁ used₂ next out₂) where
   pub begun-more : (done₂ : ℕ) → next ≡ position + done₂ → Begun lines position out used done₂ out₂ used₂

@@ -1,13 +1,13 @@
 -- Lent bytes filled with lines: as many whole lines as fit.
 use mathlib.Core.Path.{_≡_}
-use Prim.Native.Nat.{ℕ, _+_, _-_, _*_}
+use Prim.Native.Nat.{ℕ, _+_, _-_}
 use mathlib.Core.Bool.{cond}
 use mathlib.Core.List.{List, [], _∷_, map}
 use lib.Dec.{leb}
-use lib.ListN.{length, getD, drop}
+use lib.ListN.{length, drop}
 use Rattle.poly.specs.Limits.{outside, listLength}
 use Rattle.pairs.specs.Loops.{numbers, each}
-use Rattle.lines.specs.Text.{line, Puts, Lined}
+use Rattle.lines.specs.Text.{Lined}
 use Rattle.lines.specs.Output.{entryLine}
 
 abbrev pub joined : List (List ℕ) → List ℕ
@@ -30,15 +30,3 @@ filled n position room = fitting room (drop position (entryLines n))
 pub record Fills (n position : ℕ) (out : List ℕ) (used next : ℕ) (out′ : List ℕ) : Type 0 where
   pub bytes : Lined out (joined (filled n position (length out))) used out′
   pub stop : next ≡ position + length (filled n position (length out))
-
--- What the functions behind `fill_lines` say to each other: lines were put behind the first `used` bytes, as many as fit.
-pub record Adds (lines : List (List ℕ)) (position : ℕ) (out : List ℕ) (used used′ next : ℕ) (out′ : List ℕ) : Type 0 where
-  pub bytes : Puts out used (joined (fitting (length out - used) lines)) used′ out′
-  pub stop : next ≡ position + length (fitting (length out - used) lines)
-
--- From the codes of the pairs from a position on: the line of the i-th of them, and the lines of all.
-abbrev pub lineFrom : ℕ → List ℕ → ℕ → List ℕ
-lineFrom position codes i = line ((position + i) ∷ getD codes (2 * i) 0 ∷ getD codes (2 * i + 1) 0 ∷ [])
-
-abbrev pub linesFrom : ℕ → ℕ → List ℕ → List (List ℕ)
-linesFrom position many codes = map (lineFrom position codes) (numbers 0 many)

@@ -2,3 +2,5 @@ pub mod Input
 pub mod Text
 pub mod Output
 pub mod Filling
+pub mod Inner
+pub mod Claims

@@ -2,11 +2,11 @@
 use crate::text::copy;
 use crate::text::pair_line;
 use listing::Filled;
-ghost use mathlib.Core.Path.{_≡_};
 ghost use Prim.Native.Nat.{_^_, _≤_, _<_};
-ghost use lib.ListN.{length, take, drop};
+ghost use lib.ListN.{length};
 ghost use Rattle.lines.specs.Text.{Lined};
-ghost use Rattle.lines.specs.Filling.{entryLines, lineFrom, linesFrom, Adds, Fills};
+ghost use Rattle.lines.specs.Filling.{Fills};
+ghost use Rattle.lines.specs.Inner.{Adds, blockLines, lineFrom, linesFrom};
 
 // How many bytes were filled, and the position behind the last line put.
 pub struct Filling {
@@ -33,7 +33,7 @@ pub fn fill_lines(n: u32, position: u64, out: &mut [u8]) -> Filling
 // The same behind the `used` bytes, for at most 256 positions.
 fn add_block(n: u32, position: u64, out: &mut [u8], used: usize) -> Filling
     requires { ⌜ used ≤ length (now out) ⌝ }
-    ensures { λ r. ⌜ Adds (take 256 (drop position (entryLines n))) position (now (out .entry)) used (r .used) (r .next) (now (out .exit)) ⌝ }
+    ensures { λ r. ⌜ Adds (blockLines n position) position (now (out .entry)) used (r .used) (r .next) (now (out .exit)) ⌝ }
 {
     let mut codes = [0u32; 512];
     match listing::pairs_from(n, position, &mut codes) {
@@ -45,20 +45,20 @@ fn add_block(n: u32, position: u64, out: &mut [u8], used: usize) -> Filling
     }
 }
 
-// The same from the codes of the pairs.
-fn add_lines(position: u64, many: usize, codes: &[u32; 512], out: &mut [u8], used: usize) -> Filling
-    requires { ⌜ (position < 2 ^ 63) × (many ≤ 256) × (used ≤ length (now out)) ⌝ }
-    ensures { λ r. ⌜ Adds (linesFrom position many (now (codes .entry))) position (now (out .entry)) used (r .used) (r .next) (now (out .exit)) ⌝ }
+// The same from the codes of the pairs from a position on.
+fn add_lines(from: u64, many: usize, codes: &[u32; 512], out: &mut [u8], used: usize) -> Filling
+    requires { ⌜ (from < 2 ^ 63) × (many ≤ 256) × (used ≤ length (now out)) ⌝ }
+    ensures { λ r. ⌜ Adds (linesFrom from many (now (codes .entry))) from (now (out .entry)) used (r .used) (r .next) (now (out .exit)) ⌝ }
 {
     let mut line = [0u8; 64];
     let mut end = used;
     let mut i: usize = 0;
     while i < many {
-        let size = line_at(position, i, codes, &mut line);
+        let size = line_at(from, i, codes, &mut line);
         if out.len() - end < size {
             return Filling {
                 used: end,
-                next: position + i as u64,
+                next: from + i as u64,
             };
         }
         end = copy(&line[..size], out, end);
@@ -66,14 +66,14 @@ fn add_lines(position: u64, many: usize, codes: &[u32; 512], out: &mut [u8], use
     }
     Filling {
         used: end,
-        next: position + i as u64,
+        next: from + i as u64,
     }
 }
 
 // The line of the i-th of them. Where `pairs_from` gave the codes, it is the line of the pair's own position (the law `block-lines`).
-fn line_at(position: u64, i: usize, codes: &[u32; 512], out: &mut [u8; 64]) -> usize
-    requires { ⌜ (position < 2 ^ 63) × (i < 256) ⌝ }
-    ensures { λ r. ⌜ Lined (now (out .entry)) (lineFrom position (now (codes .entry)) i) r (now (out .exit)) ⌝ }
+fn line_at(from: u64, i: usize, codes: &[u32; 512], out: &mut [u8; 64]) -> usize
+    requires { ⌜ (from < 2 ^ 63) × (i < 256) ⌝ }
+    ensures { λ r. ⌜ Lined (now (out .entry)) (lineFrom from (now (codes .entry)) i) r (now (out .exit)) ⌝ }
 {
-    pair_line(position + i as u64, codes[2 * i], codes[2 * i + 1], out)
+    pair_line(from + i as u64, codes[2 * i], codes[2 * i + 1], out)
 }

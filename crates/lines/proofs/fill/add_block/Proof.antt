@@ -3,12 +3,12 @@ use mathlib.Core.List.{List, [], _∷_}
 use mathlib.Core.Path.{_≡_, refl, sym, ap, _∙_}
 use Prim.Native.Nat.{ℕ, _^_, _≤_, _<_}
 use native.Mathlib.Omega.{arith}
-use lib.ListN.{take, drop, replicate}
+use lib.ListN.{replicate}
 use Rattle.reply.specs.Reply.{served, refused}
 use Rattle.poly.proofs.Ranges.{within, list-length-lt}
 use Rattle.listing.specs.Replies.{filledReply, fromReply, fromContent}
 use Rattle.listing.proofs.From.{from-many}
-use Rattle.lines.specs.Filling.{entryLines, linesFrom, Adds}
+use Rattle.lines.specs.Inner.{Adds, blockLines, linesFrom}
 use Rattle.lines.proofs.Block.{block-is, no-block}
 use Rattle.lines.proofs.Fitting.{adds-none}
 use borrow.Author.Needs.{needs}
@@ -24,11 +24,11 @@ module _ (n position many : ℕ) (e : served (many ∷ []) ≡ fromReply n posit
 
   whole : {codes out : List ℕ} {used used′ next : ℕ} {out′ : List ℕ} → codes ≡ fromContent n position (replicate 512 0)
       → Adds (linesFrom position many codes) position out used used′ next out′
-      → Adds (take 256 (drop position (entryLines n))) position out used used′ next out′
+      → Adds (blockLines n position) position out used used′ next out′
   whole is a = rw (← block-is n position (replicate 512 0) many refl (sym e), ← is) a
 
 none : (n position : ℕ) {k : ℕ} {out : List ℕ} {used : ℕ} → refused k ≡ fromReply n position 512
-    → Adds (take 256 (drop position (entryLines n))) position out used used position out
+    → Adds (blockLines n position) position out used used position out
 none n position e = adds-none (rw (no-block n position e))
 
 slice-aggregate-pairs-from : tie.Need-slice-aggregate-pairs-from

@@ -6,7 +6,8 @@ use native.Mathlib.Omega.{arith}
 use borrow.Author.Tests.{lt-leb}
 use lib.ListN.{length, take, drop}
 use Rattle.lines.specs.Text.{Puts}
-use Rattle.lines.specs.Filling.{fitting, Adds, lineFrom, linesFrom}
+use Rattle.lines.specs.Filling.{fitting}
+use Rattle.lines.specs.Inner.{Adds, lineFrom, linesFrom}
 use Rattle.lines.proofs.Block.{line-next, no-more}
 use Rattle.lines.proofs.Putting.{lined-front}
 use Rattle.lines.proofs.Fitting.{Begun, begun, begun-more, begun-last, adds-none, adds-one}
@@ -65,7 +66,8 @@ returns c =
     let l = c .before .line-at .ensures in
     let s = c .before .before .before .before in
     let a = s .before .before .args in
-    stops (a .position) (a .many) (a .codes .now) (s .loop .inv .1) (c .before .before .before .loop-test .taken) (omega (arith, l .size, c .if1 .taken))
+    let below = c .before .before .before .loop-test .taken in
+    stops (a .from) (a .many) (a .codes .now) (s .loop .inv .1) below (omega (arith, l .size, c .if1 .taken))
 
 array-share-prefix-line : tie.Need-array-share-prefix-line Inv-loop μ-loop
 array-share-prefix-line c = search needs
@@ -88,10 +90,11 @@ loop-again c =
     let l = c .before .before .before .before .before .before .line-at .ensures in
     let fits = c .before .before .before .before .before .if1 .left in
     let bytes = lined-front l in
+    let below = c .before .before .before .before .before .before .before .before .loop-test .taken in
     let a = s .before .before .args in (
       omega arith,
-      goes-on (a .position) (a .many) (a .codes .now) (s .loop .inv .1) (c .before .before .before .before .before .before .before .before .loop-test .taken)
-          (omega (arith, l .size, fits)) (rw bytes at (c .before .before .copy .ensures)),
+      goes-on (a .from) (a .many) (a .codes .now) (s .loop .inv .1) below (omega (arith, l .size, fits))
+          (rw bytes at (c .before .before .copy .ensures)),
     )
 
 add-t21 : tie.Need-add-t21 Inv-loop μ-loop
@@ -103,7 +106,7 @@ same-length-2 c = c .before .loop .inv .1 .kept
 returns-2 : tie.Need-returns-2 Inv-loop μ-loop
 returns-2 c =
     let a = c .before .before .before .args in
-    ends (a .position) (a .many) (a .codes .now) (c .before .loop .inv .1) (omega arith)
+    ends (a .from) (a .many) (a .codes .now) (c .before .loop .inv .1) (omega arith)
 
 pub add-lines-spec : {M : Type 1} → statement M
 add-lines-spec =

@@ -1,15 +1,15 @@
 -- `fill_lines` meets its contract: block after block is put, until one puts nothing.
 use mathlib.Core.List.{List}
-use mathlib.Core.Path.{_≡_, sym, ap, _∙_}
+use mathlib.Core.Path.{_≡_}
 use Prim.Native.Nat.{ℕ, _+_, _-_, _≤_, _<_}
 use native.Mathlib.Nat.{sub-zero, sub-self, add-sub-of-le}
 use native.Mathlib.Omega.{arith}
 use lib.ListN.{length, take, drop, length-take, length-drop}
 use lib.Seq.{drop-drop}
-use Rattle.lines.specs.Filling.{joined, entryLines, filled, Adds, Fills}
+use Rattle.lines.specs.Filling.{entryLines, filled, Fills}
+use Rattle.lines.specs.Inner.{Adds, blockLines}
 use Rattle.lines.proofs.Lines.{lined}
 use Rattle.lines.proofs.Fitting.{fitting-le, fitting-few, Begun, begun, begun-more, begun-last}
-use borrow.Author.Needs.{needs}
 use Rattle.lines.proofs.fill.fill_lines.Statement.{statement}
 use Rattle.lines.proofs.fill.fill_lines.Tie as tie
 
@@ -22,7 +22,7 @@ abbrev μ-loop : tie.MeasureT-loop
 
 module _ (n position : ℕ) {out₀ : List ℕ} {next : ℕ} {out : List ℕ} {used : ℕ} (from : position ≤ next)
     (b : Begun (drop position (entryLines n)) position out₀ 0 (next - position) out used) {used′ next′ : ℕ} {out′ : List ℕ}
-    (a : Adds (take 256 (drop next (entryLines n))) next out used used′ next′ out′) where
+    (a : Adds (blockLines n next) next out used used′ next′ out′) where
   -- The block, from the first position on.
   block : Adds (take 256 (drop (next - position) (drop position (entryLines n)))) (position + (next - position)) out used used′ next′ out′
   block = rw (drop-drop (next - position) position (entryLines n), add-sub-of-le from) a
