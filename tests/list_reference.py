@@ -83,7 +83,7 @@ def case(text, whole=True):
 def cases():
     yield case("2\n")
     yield case("10\n", whole=False)
-    for text in ["0\n", "11\n", "", "3", "+3\n", "03\n", "003\n", "3\n\n", "10\nx", "1\n", "3\n"]:
+    for text in ["0\n", "11\n", "", "3", "+3\n", "03\n", "003\n", "3\n\n", "10\nx", "1\n", "3\n", "6\n"]:
         yield case(text)
 
 

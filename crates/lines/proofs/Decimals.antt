@@ -1,10 +1,12 @@
 -- The fewest digits that hold a number are its decimal digits.
 use mathlib.Core.Path.{_≡_, refl}
 use Prim.Native.Nat.{ℕ, zero, suc, _+_, _-_, _/_, _%_, _^_, _≤_, _<_}
+use mathlib.Core.List.{[], _∷_}
 use native.Mathlib.Nat.{pow-suc}
 use native.Mathlib.Numerals.{sub-one}
 use native.Mathlib.Decide.{decLt}
 use native.Mathlib.Omega.{arith}
+use lib.ListN.{length, length-append}
 use lib.Pow.{pow-add}
 use borrow.Author.Tests.{lt-ltb}
 use Rattle.io.specs.Digits.{digits, glyph, Fewest}
@@ -59,3 +61,17 @@ at-most-20 n k (least, low, high) fits = go (decLt 20 k)
     go (yes h) =
         let e : k - 1 ≡ 20 + (k - 21) = omega arith in
         absurd (too-many (k - 21) n (rw e at (high (omega arith))) fits)
+
+-- So its decimal text has at most 20 bytes.
+digits-short : (k fuel n : ℕ) → n < 10 ^ k → length (digitsIn fuel n) ≤ k
+digits-short k zero n low = omega arith
+digits-short k (suc fuel) zero low = omega arith
+digits-short zero (suc fuel) (suc n) low = absurd (omega arith)
+digits-short (suc k) (suc fuel) (suc n) low =
+    let ih = digits-short k fuel (suc n / 10) (tenth-low k (suc n) low) in
+    omega (arith, length-append (digitsIn fuel (suc n / 10)) ((48 + suc n % 10) ∷ []))
+
+pub decimal-short : (n : ℕ) → n < 2 ^ 64 → length (decimal n) ≤ 20
+unfolding decimal
+decimal-short n h =
+    omega (arith, digits-short 19 n (n / 10) (omega arith), length-append (digitsIn n (n / 10)) ((48 + n % 10) ∷ []))

@@ -3,10 +3,10 @@ use mathlib.Core.Path.{_≡_, refl, sym, ap, _∙_}
 use Prim.Native.Nat.{ℕ, _+_, _≤_, _<_}
 use mathlib.Core.List.{List, [], _∷_, _++_}
 use native.Mathlib.Omega.{arith}
-use lib.ListN.{length, set, length-append}
-use lib.Seq.{sets, length-sets, sets-eq, paste, take-length}
+use lib.ListN.{length, set, take, drop, length-append}
+use lib.Seq.{sets, length-sets, sets-eq, paste, take-length, take-append-seam}
 use Rattle.poly.proofs.Stores.{sets-append}
-use Rattle.lines.specs.Text.{put, Puts}
+use Rattle.lines.specs.Text.{put, Puts, Lined}
 
 put-sets : (out : List ℕ) (at : ℕ) (bytes : List ℕ) → at + length bytes ≤ length out → put out at bytes ≡ sets out at bytes
 unfolding put
@@ -42,3 +42,8 @@ puts-more {out} {at} {bytes} {next} {out′} {more} {next′} {out″} room p q 
           ∙ rw (p .after, p .next, put-sets out at bytes room₁, ← sets-append out at bytes more)
           (sym (put-sets out at (bytes ++ more) room));
     }
+
+-- The bytes of a line stand at the front.
+pub lined-front : {out bytes : List ℕ} {r : ℕ} {out′ : List ℕ} → Lined out bytes r out′ → take r out′ ≡ bytes
+unfolding put
+lined-front {out} {bytes} l = rw (l .size, l .content) (take-append-seam bytes (drop (0 + length bytes) out))

@@ -1,3 +1,6 @@
 pub mod Input
 pub mod Text
 pub mod Output
+pub mod Filling
+pub mod Inner
+pub mod Claims

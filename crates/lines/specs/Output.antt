@@ -1,14 +1,13 @@
 -- All that the list program prints for an input.
-use Prim.Native.Nat.{ℕ, _+_, _*_}
+use Prim.Native.Nat.{ℕ}
 use mathlib.Core.List.{List, [], _∷_, _++_}
-use lib.ListN.{getD}
 use Rattle.reply.specs.Reply.{Reply, served, refused, spent}
 use Rattle.poly.specs.Limits.{listLength}
 use Rattle.poly.specs.Replies.{lengthReply}
 use Rattle.pairs.specs.Loops.{numbers, each}
 use Rattle.pairs.specs.Replies.{pairAtReply}
 use Rattle.lines.specs.Input.{inputReply}
-use Rattle.lines.specs.Text.{line, replyLine}
+use Rattle.lines.specs.Text.{replyLine}
 
 -- First line: degree and length.
 abbrev pub firstLine : ℕ → List ℕ
@@ -17,10 +16,6 @@ firstLine n = replyLine n (lengthReply n)
 -- Then position, f, g.
 abbrev pub entryLine : ℕ → ℕ → List ℕ
 entryLine n position = replyLine position (pairAtReply n position)
-
--- The same from the codes of the pairs from a position on: the line of the i-th of them.
-abbrev pub lineFrom : ℕ → ℕ → List ℕ → List ℕ
-lineFrom position i codes = line ((position + i) ∷ getD codes (2 * i) 0 ∷ getD codes (2 * i + 1) 0 ∷ [])
 
 abbrev pub printed : Reply → List ℕ
 printed (served (n ∷ rest)) = firstLine n ++ each (numbers 0 (listLength n)) (entryLine n)

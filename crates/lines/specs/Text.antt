@@ -1,9 +1,7 @@
 -- The lines that the list program prints, as lists of bytes.
 use mathlib.Core.Path.{_≡_}
 use Prim.Native.Nat.{ℕ, zero, suc, _+_, _/_, _%_}
-use mathlib.Core.Bool.{Bool, cond}
 use mathlib.Core.List.{List, [], _∷_, _++_}
-use lib.Dec.{leb}
 use lib.ListN.{length, take, drop}
 use Rattle.io.specs.Counts.{Counts}
 use Rattle.reply.specs.Reply.{Reply, served, refused, spent}
@@ -33,18 +31,7 @@ pub record Puts (out : List ℕ) (at : ℕ) (bytes : List ℕ) (r : ℕ) (out′
   pub next : r ≡ at + length bytes
   pub after : out′ ≡ put out at bytes
 
--- There is room for the bytes behind the first `used` of a buffer.
-unfoldable pub fits : List ℕ → ℕ → List ℕ → Bool
-fits out used bytes = leb (used + length bytes) (length out)
-
--- How much of the buffer is used after bytes were to go behind the first `used`, and what it holds: without room nothing is done.
-abbrev pub usedAfter : List ℕ → ℕ → List ℕ → ℕ
-usedAfter out used bytes = cond (fits out used bytes) (used + length bytes) used
-
-abbrev pub bufferAfter : List ℕ → ℕ → List ℕ → List ℕ
-bufferAfter out used bytes = cond (fits out used bytes) (put out used bytes) out
-
--- What a function that makes a line promises: the bytes stand at the front of `out`, and the answer is how many there are.
+-- What a function that makes lines promises: the bytes stand at the front of `out`, and the answer is how many there are.
 pub record Lined (out bytes : List ℕ) (r : ℕ) (out′ : List ℕ) : Type 0 where
   pub size : r ≡ length bytes
   pub content : out′ ≡ put out 0 bytes

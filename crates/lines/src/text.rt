@@ -1,9 +1,8 @@
-// The lines that the list program prints, and a buffer that collects them.
-ghost use mathlib.Core.Path.{_≡_};
+// The lines that the list program prints.
 ghost use mathlib.Core.List.{[], _∷_, _++_};
 ghost use Prim.Native.Nat.{_+_, _≤_};
 ghost use lib.ListN.{length};
-ghost use Rattle.lines.specs.Text.{decimal, line, Puts, Lined, refusedText, usedAfter, bufferAfter};
+ghost use Rattle.lines.specs.Text.{decimal, line, Puts, Lined, refusedText};
 
 // The first line, degree and the length of the list, at the front of `out`. It gives the line's length.
 pub(crate) fn heading(degree: u32, count: u64, out: &mut [u8; 64]) -> usize
@@ -43,22 +42,8 @@ fn field(n: u64, end: u8, out: &mut [u8], at: usize) -> usize
     next + 1
 }
 
-// Puts bytes behind the first `used` of a buffer, and gives how many are used then. Without room for them it does nothing.
-pub(crate) fn append(out: &mut [u8], used: usize, bytes: &[u8]) -> usize
-    ensures count { λ r. ⌜ r ≡ usedAfter (now (out .entry)) used (now (bytes .entry)) ⌝ }
-    ensures content { λ _. ⌜ now (out .exit) ≡ bufferAfter (now (out .entry)) used (now (bytes .entry)) ⌝ }
-{
-    if out.len() < used {
-        return used;
-    }
-    if out.len() - used < bytes.len() {
-        return used;
-    }
-    copy(bytes, out, used)
-}
-
 // Puts bytes at a position of `out`, and gives the position behind them.
-fn copy(bytes: &[u8], out: &mut [u8], at: usize) -> usize
+pub(crate) fn copy(bytes: &[u8], out: &mut [u8], at: usize) -> usize
     requires { ⌜ at + length (now bytes) ≤ length (now out) ⌝ }
     ensures { λ r. ⌜ Puts (now (out .entry)) at (now (bytes .entry)) r (now (out .exit)) ⌝ }
 {

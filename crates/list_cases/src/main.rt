@@ -1,5 +1,6 @@
-// Prints what the list program prints for inputs on the edges, to be held against tests/list_reference.py. The list of degree 10 is long:
-// of its lines, made here one by one, the first and the last are printed, and a checksum of all of them.
+// Prints what the list program prints for inputs on the edges, and for degree 6, whose list is longer than a block, to be held against
+// tests/list_reference.py. The list of degree 10 is longer than a buffer: its lines are filled in as the list program does it, and of them
+// the first and the last are printed, and a checksum of all.
 use libc::STDOUT_FILENO;
 ghost use Prim.Native.Nat.{_<_};
 
@@ -42,13 +43,6 @@ fn mixed(sum: u64, bytes: &[u8]) -> u64 {
     total
 }
 
-// A running checksum with the line of a position added.
-fn line(n: u32, position: u64, sum: u64) -> u64 {
-    let mut text = [0u8; 64];
-    let size = lines::entry_line(n, position, &mut text);
-    mixed(sum, &text[..size])
-}
-
 fn show(n: u32, position: u64) {
     let mut text = [0u8; 64];
     let size = lines::entry_line(n, position, &mut text);
@@ -62,15 +56,20 @@ fn first_line(n: u32) -> u64 {
     mixed(0, &text[..size])
 }
 
-// The checksum of all the lines of a degree.
-fn checksum(n: u32, count: u64, first: u64) -> u64 {
+// The checksum of all the lines of a degree, one filling after the other.
+fn checksum(n: u32, first: u64) -> u64 {
+    let mut buffer = io::large_buffer();
     let mut sum = first;
     let mut position: u64 = 0;
-    while position < count {
-        sum = line(n, position, sum);
-        position += 1;
+    loop {
+        let filling = lines::fill_lines(n, position, &mut buffer);
+        let used = filling.used;
+        if used == 0 {
+            return sum;
+        }
+        sum = mixed(sum, &buffer[..used]);
+        position = filling.next;
     }
-    sum
 }
 
 fn summary(n: u32, count: u64) {
@@ -79,7 +78,7 @@ fn summary(n: u32, count: u64) {
     if 0 < count {
         show(n, count - 1);
     }
-    let sum = checksum(n, count, first);
+    let sum = checksum(n, first);
     io::write_all(STDOUT_FILENO, b"checksum ");
     io::print_decimal(STDOUT_FILENO, sum);
     io::write_all(STDOUT_FILENO, b"\n");
@@ -99,4 +98,5 @@ fn main() {
     case(b"10\nx");
     case(b"1\n");
     case(b"3\n");
+    case(b"6\n");
 }

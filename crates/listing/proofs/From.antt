@@ -2,9 +2,9 @@
 use mathlib.Core.Bool.{false}
 use mathlib.Core.List.{List, [], _∷_, _++_}
 use mathlib.Core.Path.{_≡_, refl, sym, ap, ap₂, _∙_}
-use Prim.Native.Nat.{ℕ, zero, suc, _+_, _*_, _/_, _<_}
+use Prim.Native.Nat.{ℕ, zero, suc, _+_, _-_, _*_, _/_, _<_, min}
 use native.Mathlib.Omega.{arith}
-use borrow.Author.Tests.{lt-leb}
+use borrow.Author.Tests.{lt-leb, leb-false}
 use lib.Dec.{leb, ltb}
 use lib.ListN.{length, drop, getD, length-take, length-drop, List·getD-append}
 use lib.Seq.{getD-take, getD-drop}
@@ -63,6 +63,16 @@ module _ (n position : ℕ) (out : List ℕ) (many : ℕ) (e : fromReply n posit
 
   many-is : many ≡ length given
   many-is = let same : served (many ∷ []) ≡ served (length given ∷ []) = sym e ∙ reply in cc
+
+  -- as many pairs as there are and as fit
+  pub from-many : (outside 1 31 n ≡ false) × (position < listLength n) × (many ≡ min (length out / 2) (listLength n - position))
+  unfolding pairsFrom
+  from-many =
+      let all = length-take (length out / 2) (drop position (pairs n)) in (
+        causes .0,
+        leb-false (listLength n) position (causes .1 .0),
+        many-is ∙ all ∙ ap (min (length out / 2)) (length-drop position (pairs n) ∙ ap (λ v. v - position) (length-pairs n)),
+      )
 
   content : fromContent n position out ≡ codes given ++ drop (length (codes given)) out
   unfolding fromContent

@@ -1,7 +1,7 @@
 -- `line_at` meets its contract: the line is made of the position and of the two codes that stand for it.
 use borrow.Author.Needs.{needs}
-use Rattle.lines.proofs.print.line_at.Statement.{statement}
-use Rattle.lines.proofs.print.line_at.Tie as tie
+use Rattle.lines.proofs.fill.line_at.Statement.{statement}
+use Rattle.lines.proofs.fill.line_at.Tie as tie
 
 pub line-at-spec : {M : Type 1} → statement M
 line-at-spec =
