@@ -18,7 +18,7 @@ use Rattle.pairs.proofs.Loops.{each-map}
 use Rattle.pairs.proofs.Pairs.{length-pairs}
 use Rattle.pairs.proofs.Standing.{entries-coprime, pair-answers}
 use Rattle.lines.specs.Text.{decimal, line}
-use Rattle.lines.specs.Output.{entryLine}
+use Rattle.lines.specs.Output.{firstLine, entryLine, printed}
 use Rattle.lines.specs.Filling.{joined, fitting, entryLines, filled, Fills}
 use Rattle.lines.specs.Claims.{pieces, PrintClaim}
 use Rattle.lines.proofs.Decimals.{decimal-short}
@@ -98,7 +98,8 @@ module _ (n : ℕ) (on : outside 1 31 n ≡ false) where
           let some = filled-some position h in
           let on : 0 < length (filled n position room) = some-lines (filled n position room) (λ z. omega arith) in
           let rest = pieces-are times (position + length (filled n position room)) (omega arith) in
-          rw (ne-eqb (length (joined (filled n position room))) 0 (λ z. omega arith), rest) (filled-front position)
+          rw (ne-eqb (length (joined (filled n position room))) 0 (λ z. omega arith))
+          (ap (λ more. joined (filled n position room) ++ more) rest ∙ filled-front position)
       | no h ↦ let end : listLength n ≤ position = omega arith in rw (filled-none position end, no-lines position end)
     ]
 
@@ -109,4 +110,4 @@ prints-all input n room times e wide enough =
     let on : outside 1 31 n ≡ false = inside 1 31 low (omega arith) in
     let list : joined (entryLines n) ≡ each (numbers 0 (listLength n)) (entryLine n) =
     rw on (each-map (λ l. l) (entryLine n) (numbers 0 (listLength n))) in
-    rw (e, pieces-are n on room wide times 0 (omega arith), list)
+    ap (λ more. firstLine n ++ more) (pieces-are n on room wide times 0 (omega arith) ∙ list) ∙ sym (ap printed e)

@@ -17,7 +17,7 @@ use Rattle.lines.proofs.fill.add_lines.Tie as tie
 
 abbrev Inv-loop : tie.InvT-loop
 Inv-loop position many codes out₀ used line₀ end₀ i₀ out line end i =
-    (i ≤ many) × Begun (linesFrom position many codes) position out₀ used i out end
+    Begun (linesFrom position many codes) position out₀ used i out end × (i ≤ many)
 
 abbrev μ-loop : tie.MeasureT-loop
 μ-loop position many codes out₀ used line₀ end₀ i₀ out line end i = many - i
@@ -47,19 +47,19 @@ module _ (position many : ℕ) (codes : List ℕ) {out₀ : List ℕ} {used i en
       b .rest end (position + i) out (adds-none (rw none))
 
 loop-holds : tie.Need-loop-holds Inv-loop μ-loop
-loop-holds c = (omega arith, begun (c .before .pre .2))
+loop-holds c = (begun (c .before .pre .2), omega arith)
 
 line-at-requires : tie.Need-line-at-requires Inv-loop μ-loop
 line-at-requires c κs = search needs
 
 sub-if1 : tie.Need-sub-if1 Inv-loop μ-loop
-sub-if1 c = c .before .before .before .loop .inv .1 .room
+sub-if1 c = c .before .before .before .loop .inv .0 .room
 
 add-t15 : tie.Need-add-t15 Inv-loop μ-loop
 add-t15 c = search needs
 
 same-length : tie.Need-same-length Inv-loop μ-loop
-same-length c = c .before .before .before .before .loop .inv .1 .kept
+same-length c = c .before .before .before .before .loop .inv .0 .kept
 
 returns : tie.Need-returns Inv-loop μ-loop
 returns c =
@@ -67,7 +67,7 @@ returns c =
     let s = c .before .before .before .before in
     let a = s .before .before .args in
     let below = c .before .before .before .loop-test .taken in
-    stops (a .from) (a .many) (a .codes .now) (s .loop .inv .1) below (omega (arith, l .size, c .if1 .taken))
+    stops (a .from) (a .many) (a .codes .now) (s .loop .inv .0) below (omega (arith, l .size, c .if1 .taken))
 
 array-share-prefix-line : tie.Need-array-share-prefix-line Inv-loop μ-loop
 array-share-prefix-line c = search needs
@@ -92,21 +92,21 @@ loop-again c =
     let bytes = lined-front l in
     let below = c .before .before .before .before .before .before .before .before .loop-test .taken in
     let a = s .before .before .args in (
-      omega arith,
-      goes-on (a .from) (a .many) (a .codes .now) (s .loop .inv .1) below (omega (arith, l .size, fits))
+      goes-on (a .from) (a .many) (a .codes .now) (s .loop .inv .0) below (omega (arith, l .size, fits))
           (rw bytes at (c .before .before .copy .ensures)),
+      omega arith,
     )
 
 add-t21 : tie.Need-add-t21 Inv-loop μ-loop
 add-t21 c = search needs
 
 same-length-2 : tie.Need-same-length-2 Inv-loop μ-loop
-same-length-2 c = c .before .loop .inv .1 .kept
+same-length-2 c = c .before .loop .inv .0 .kept
 
 returns-2 : tie.Need-returns-2 Inv-loop μ-loop
 returns-2 c =
     let a = c .before .before .before .args in
-    ends (a .from) (a .many) (a .codes .now) (c .before .loop .inv .1) (omega arith)
+    ends (a .from) (a .many) (a .codes .now) (c .before .loop .inv .0) (omega arith)
 
 pub add-lines-spec : {M : Type 1} → statement M
 add-lines-spec =
