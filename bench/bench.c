@@ -332,8 +332,7 @@ static size_t by_plain_shuffled(uint32_t n, uint32_t *out)
 static size_t by_pairs_from(uint32_t n, uint32_t *out)
 {
     size_t pairs = 0;
-    dw_pairs_from(n, 0, out, 2 * LIST_PAIRS, &pairs);
-    return pairs;
+    return dw_pairs_from(n, 0, out, 2 * LIST_PAIRS, &pairs) == DW_SERVED ? pairs : 0;
 }
 #endif
 #ifdef NTL

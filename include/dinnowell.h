@@ -1,22 +1,58 @@
 /*
  * Dinnowell: coprime pairs of binary polynomials, crossed squares, sheets and trial files for bonding trials.
  *
- * Every function returns DW_SERVED, the number of a refusal, or DW_SPENT. It looks for refusals in the order in which they are listed with
- * it, there without their prefix DW_REFUSED_, and returns the first that applies. Results go through pointers. What stands behind a pointer
- * changes only where the function returns DW_SERVED, and then only as far as it says; otherwise all lent memory is as it was.
+ * WHAT IT SPEAKS OF; docs/SCOPE.md has all of it in full.
+ * A polynomial with coefficients 0 and 1 is a code: bit j is the coefficient of x^j, so 11 is x^3 + x + 1. Its degree is the highest power
+ * of x in it, its constant term is bit 0. Two codes have a common factor if a polynomial of degree 1 or more divides both; if none does,
+ * they are coprime.
+ * The list of degree n holds every ordered pair (f, g) of coprime codes of degree n whose constant terms are both one, each pair once. It
+ * has 2(4^(n-1) - 1)/3 pairs, in an order that docs/SCOPE.md sets out under "The list".
+ * The square of a code of degree n has 2^n rows and 2^n columns, and at each site, which is a row and a column, a symbol below 2^n. Write
+ * the n bits of the row and then the n bits of the column, each highest first, as cells 0 to 2n - 1. Then, for i from 0 to n - 1, bit
+ * n - 1 - i of the symbol is 1 if an odd number of the cells i + j are 1, over all j from 0 to n for which bit j of the code is 1. Laid
+ * over each other, the squares of two codes of degree n show each pair of symbols at exactly one site if the codes are coprime, and only
+ * then.
+ * Positions, rows, columns and symbols count from 0. The format of a trial file is in docs/SCOPE.md under "Trial file".
  *
- * A polynomial is a code: bit j is the coefficient of x^j, so 11 is x^3 + x + 1. Positions, rows, columns and symbols count from 0.
+ * WHAT A FUNCTION ANSWERS. Every function returns DW_SERVED, the number of a refusal, or, where it says so, DW_SPENT. The refusals that a
+ * function can return are listed with it, without their prefix DW_REFUSED_, in the order in which it looks for them; the first that applies
+ * is returned. Results go through pointers. What stands behind a pointer changes only where the function returns DW_SERVED, and then only
+ * as far as the function says; otherwise all memory is as it was before the call.
  *
- * Pointers: none is null, also where its length is 0; each is aligned for its type and points to as many elements as the length beside it
- * says, or to one. The pieces of memory that one call may write overlap with nothing else that the call is lent, so that two results which
- * nobody wants still need a place each. Memory that a call only writes need not be initialised.
- * Nothing is allocated and there is no global state: calls on separate memory may run at the same time.
+ * POINTERS. A pointer with a length beside it points to that many elements; where the length is 0, the pointer may be null, as that of an
+ * empty C++ vector may be. Every other pointer points to one element and is never null, also where nobody wants the result. Each pointer is
+ * aligned for its type. Memory that a call may write, which is what its parameters without const point to, overlaps with nothing else that
+ * the same call gets: two results that nobody wants still need a variable each. Memory that a call only writes need not be initialised.
+ *
+ * THREADS. Nothing is allocated and there is no global state. Calls may run at the same time as long as none writes what another reads or
+ * writes; what calls only read, they may share.
+ *
+ * BUILDING. C11 or later, C++17 or later; x86-64 Linux, System V calling convention. One archive, libconsole.a, position-independent, which
+ * needs memcpy and memset of other code at most:
+ *     cc -std=c11 -Iinclude console.c libconsole.a
  */
 #ifndef DINNOWELL_H
 #define DINNOWELL_H
 
 #include <stddef.h>
 #include <stdint.h>
+
+/* The version of this interface. MAJOR grows where a caller may have to change, MINOR where something is added. */
+#define DW_VERSION_MAJOR 1
+#define DW_VERSION_MINOR 0
+#define DW_VERSION (1000 * DW_VERSION_MAJOR + DW_VERSION_MINOR)
+
+/*
+ * The compiler warns where the status that a function returns is not looked at. A refused call leaves what was in the buffer before, which
+ * may be yesterday's sheet, and the status alone tells the two apart.
+ */
+#if defined(__cplusplus) && __cplusplus >= 201703L
+#define DW_MUST_CHECK [[nodiscard]]
+#elif defined(__GNUC__)
+#define DW_MUST_CHECK __attribute__((warn_unused_result))
+#else
+#define DW_MUST_CHECK
+#endif
 
 #ifdef __cplusplus
 extern "C" {
@@ -28,12 +64,12 @@ enum {
     DW_REFUSED_DEGREE_RANGE = 1,    /* degree outside 1 to 31 */
     DW_REFUSED_POSITION_RANGE = 2,  /* position not below the list's length */
     DW_REFUSED_WALK_RECORD = 3,     /* walk record with degree outside 1 to 31, or position above the list's length */
-    DW_REFUSED_SLICE_LENGTH = 4,    /* lent memory too short; for dw_write also a list of levels not of length 2^n */
+    DW_REFUSED_SLICE_LENGTH = 4,    /* memory too short for the results; for dw_write also a list of levels not of length 2^n */
     DW_REFUSED_SITE_RANGE = 5,      /* row or column not below 2^n */
     /* Caused by who chooses polynomials. */
     DW_REFUSED_CODE_DEGREE = 6,     /* code not of degree n */
-    DW_REFUSED_CONSTANT_TERM = 7,   /* constant term 0 */
-    DW_REFUSED_COMMON_FACTOR = 8,   /* common factor */
+    DW_REFUSED_CONSTANT_TERM = 7,   /* constant term 0, an even code */
+    DW_REFUSED_COMMON_FACTOR = 8,   /* f and g have a common factor */
     /* Caused by who writes the file. */
     DW_REFUSED_FILE_ENDS = 9,       /* file ends inside a number or the name, or before a field */
     DW_REFUSED_NUMBER_FORM = 10,    /* number longer than five bytes, above 4294967295, or with a needless last byte 0 */
@@ -49,14 +85,19 @@ enum {
 };
 
 enum {
-    DW_CHAIN_ROOM = 32,   /* numbers to lend for a chain */
-    DW_LEVELS_ROOM = 64,  /* levels to lend for each list of a file that is read */
+    DW_CHAIN_ROOM = 32,   /* how many numbers dw_chain must be given room for */
+    DW_LEVELS_ROOM = 64,  /* how many levels dw_read must be given room for, in each list */
     DW_SHEET_ROOM = 8192, /* bytes that hold a sheet of any degree; degree n needs 2 * 4^n */
     DW_FILE_ROOM = 429,   /* bytes that hold any trial file */
-    DW_NAME_ROOM = 40     /* bytes that hold any name, which ends in no 0 */
+    DW_NAME_ROOM = 40,    /* bytes that hold any name, with no 0 behind it */
+    DW_STACK_ROOM = 8192  /* bytes of stack that hold any call: measured, not proved; dw_pairs_from takes most, some 4600 */
 };
 
-/* A walk through the list of a degree. Fill it with dw_start and leave it to dw_draw. Its padding means nothing. */
+/*
+ * A walk through the list of a degree: dw_start fills it in, dw_draw moves it on. It may be copied and kept, and its position may be set to
+ * any number up to the length of its list; at the length the walk is spent. The padding between the fields means nothing, so compare the
+ * fields and not the bytes.
+ */
 typedef struct dw_walk {
     uint32_t degree;
     uint64_t position;
@@ -70,101 +111,117 @@ _Static_assert(sizeof(dw_walk) == 16 && offsetof(dw_walk, position) == 8 && size
 #endif
 
 /*
- * How many coprime pairs the list of degree n has, (f, g) and (g, f) counted both.
- * Served: *pairs is the length. Otherwise it stays.
+ * How many pairs the list of degree n has; (f, g) and (g, f) are two.
+ * Served: *pairs is that number.
  * Refused: DEGREE_RANGE.
  */
+DW_MUST_CHECK
 uint32_t dw_length(uint32_t n, uint64_t *pairs);
 
 /*
  * The pair at a position of the list of degree n.
- * Served: *f and *g are its codes. Otherwise they stay.
+ * Served: *f and *g are its codes.
  * Refused: DEGREE_RANGE; POSITION_RANGE.
  */
+DW_MUST_CHECK
 uint32_t dw_pair_at(uint32_t n, uint64_t position, uint32_t *f, uint32_t *g);
 
 /*
- * The pairs of the list of degree n from a position on, as many as fit into codes and as there are. codes has room numbers.
- * Served: *count is how many pairs; the first 2 * *count numbers of codes are theirs, f and g in turn, and the numbers behind them stay.
- * Otherwise all of it stays.
+ * The pairs of the list of degree n from a position on, as many as there are and as fit. room is how many numbers codes can hold; a pair
+ * takes two.
+ * Served: *count is how many pairs, at least 1; the first 2 * *count numbers of codes are their codes, f and g in turn. The numbers behind
+ * them are unchanged. The next call goes on at position + *count. At the list's end that is refused by POSITION_RANGE: there is no count
+ * of 0.
  * Refused: DEGREE_RANGE; POSITION_RANGE; SLICE_LENGTH if room is below 2.
  */
+DW_MUST_CHECK
 uint32_t dw_pairs_from(uint32_t n, uint64_t position, uint32_t *codes, size_t room, size_t *count);
 
 /*
  * Where the pair of the codes f and g stands in the list of degree n.
- * Served: *position is its position. Otherwise it stays.
+ * Served: *position is its position.
  * Refused: DEGREE_RANGE; CODE_DEGREE, CONSTANT_TERM for f, then for g; COMMON_FACTOR.
  */
+DW_MUST_CHECK
 uint32_t dw_position_of(uint32_t n, uint32_t f, uint32_t g, uint64_t *position);
 
 /*
- * Euclid's quotients of the codes f and g of degree n, from f by g on. The two may have a common factor. quotients has room numbers.
- * Served: *count is how many quotients there are, *divisor the greatest common divisor; the quotients are the first numbers of quotients,
- * in the order of the divisions, and the numbers behind them stay. Otherwise all of it stays.
- * Refused: DEGREE_RANGE; CODE_DEGREE, CONSTANT_TERM for f, then for g; SLICE_LENGTH if room is below DW_CHAIN_ROOM.
+ * The quotients of Euclid's algorithm on the codes f and g of degree n: f is divided by g, then each divisor by its remainder, until that
+ * is 0. The two may have a common factor. room is how many numbers quotients can hold.
+ * Served: *count is how many quotients there are, *divisor the greatest common divisor; the first *count numbers of quotients are the
+ * quotients, in the order of the divisions. The numbers behind them are unchanged.
+ * Refused: DEGREE_RANGE; CODE_DEGREE, CONSTANT_TERM for f, then for g; SLICE_LENGTH if room is below DW_CHAIN_ROOM, however few there are.
  */
+DW_MUST_CHECK
 uint32_t dw_chain(uint32_t n, uint32_t f, uint32_t g, uint32_t *quotients, size_t room, size_t *count, uint32_t *divisor);
 
 /*
  * The symbols at one row and column of the squares of f and g, codes of degree n. The two may have a common factor.
- * Served: *first is f's symbol and *second g's, each below 2^n. Otherwise they stay.
+ * Served: *first is f's symbol and *second g's.
  * Refused: DEGREE_RANGE; CODE_DEGREE, CONSTANT_TERM for f, then for g; SITE_RANGE.
  */
+DW_MUST_CHECK
 uint32_t dw_site(uint32_t n, uint32_t f, uint32_t g, uint32_t row, uint32_t col, uint32_t *first, uint32_t *second);
 
 /*
- * The sheet of f and g, codes of degree n: row by row, two bytes a site, f's symbol and then g's. The site gets the power whose index is
- * f's symbol and the force whose index is g's. sheet has room bytes.
- * Served: the first 2 * 4^n bytes of sheet are the sheet, and the bytes behind them stay. Otherwise all of it stays.
+ * The sheet of f and g, codes of degree n: two bytes a site, f's symbol and then g's, row by row. In a trial the site gets
+ * powers[f's symbol] and forces[g's symbol]. room is how many bytes sheet can hold.
+ * Served: the first 2 * 4^n bytes of sheet are the sheet; row r and column c have bytes 2 * (r * 2^n + c) and the next. The bytes behind
+ * the sheet are unchanged.
  * Refused: SHEET_DEGREE; CODE_DEGREE, CONSTANT_TERM for f, then for g; COMMON_FACTOR; SLICE_LENGTH if room is below 2 * 4^n.
  */
+DW_MUST_CHECK
 uint32_t dw_sheet(uint32_t n, uint32_t f, uint32_t g, uint8_t *sheet, size_t room);
 
 /*
- * Reads the trial file that is the length bytes of file. powers and forces have powers_room and forces_room numbers.
- * Served: *degree, *f and *g are the file's; the first 2^degree numbers of powers (milliwatts) and of forces (millinewtons) are its levels,
- * and the numbers behind them stay; its name is the *name_length bytes from file[*name_offset] on. Otherwise all of it stays.
- * An empty name has offset length.
- * Refused: SLICE_LENGTH if powers_room or forces_room is below DW_LEVELS_ROOM; then field by field: VERSION; SHEET_DEGREE; CODE_DEGREE,
- * CONSTANT_TERM for f, then for g; COMMON_FACTOR; LEVEL_RANGE, LEVEL_ORDER for each power, then for each force; NAME_LENGTH; FILE_ENDS,
- * NAME_BYTE for the name; TRAILING_BYTES. Before the field's own, each number is refused by FILE_ENDS if the file ends before the number
- * does and before its fifth byte, and then by NUMBER_FORM.
+ * Reads a trial file, the length bytes of file. powers_room and forces_room are how many numbers powers and forces can hold.
+ * Served: *degree, *f and *g are the file's. The first 2^*degree numbers of powers are its powers, in milliwatts, and those of forces its
+ * forces, in millinewtons, both rising; the numbers behind them are unchanged. Its name is the *name_length bytes from file[*name_offset]
+ * on, the last of the file, at most DW_NAME_ROOM, with no 0 behind them; for an empty name *name_offset is length.
+ * Refused: SLICE_LENGTH if powers_room or forces_room is below DW_LEVELS_ROOM, also if the file has fewer levels. Then field by field:
+ * VERSION; SHEET_DEGREE; CODE_DEGREE, CONSTANT_TERM for f, then for g; COMMON_FACTOR; LEVEL_RANGE, LEVEL_ORDER for each power, then for
+ * each force; NAME_LENGTH; FILE_ENDS, NAME_BYTE for the name; TRAILING_BYTES. Ahead of its field's own refusals, each number is refused by
+ * FILE_ENDS if the file ends where the number is unfinished and has fewer than five bytes, and then by NUMBER_FORM.
  */
+DW_MUST_CHECK
 uint32_t dw_read(const uint8_t *file, size_t length, uint16_t *powers, size_t powers_room, uint16_t *forces, size_t forces_room,
                  uint32_t *degree, uint32_t *f, uint32_t *g, size_t *name_offset, size_t *name_length);
 
 /*
  * Writes the trial file of degree n with the codes f and g, powers_count powers (milliwatts), forces_count forces (millinewtons) and a name
- * of name_length bytes, with no 0 behind it. file has room bytes; DW_FILE_ROOM are always enough.
- * Served: *length is how many bytes the file has; they are the first of file, and the bytes behind them stay. Otherwise all of it stays.
+ * of name_length bytes, with no 0 behind it. room is how many bytes file can hold; DW_FILE_ROOM are always enough.
+ * Served: *length is how many bytes the file has; they are the first of file. The bytes behind them are unchanged.
  * Refused: SHEET_DEGREE; CODE_DEGREE, CONSTANT_TERM for f, then for g; COMMON_FACTOR; SLICE_LENGTH if powers_count or forces_count is not
  * 2^n; LEVEL_ORDER for powers, then for forces; NAME_LENGTH; NAME_BYTE; SLICE_LENGTH if room is below the file's length.
  */
+DW_MUST_CHECK
 uint32_t dw_write(uint32_t n, uint32_t f, uint32_t g, const uint16_t *powers, size_t powers_count, const uint16_t *forces,
                   size_t forces_count, const uint8_t *name, size_t name_length, uint8_t *file, size_t room, size_t *length);
 
 /*
- * Starts a walk through the list of degree n. What stands in *walk is not looked at.
- * Served: *walk has that degree and position 0. Otherwise it stays.
+ * Starts a walk through the list of degree n. What stands in *walk before is not looked at.
+ * Served: *walk has degree n and position 0.
  * Refused: DEGREE_RANGE.
  */
+DW_MUST_CHECK
 uint32_t dw_start(uint32_t n, dw_walk *walk);
 
 /*
  * The pair at the walk's position.
- * Served: *f and *g are its codes. Otherwise they stay.
+ * Served: *f and *g are its codes.
  * Refused: WALK_RECORD.
  * DW_SPENT: the walk is at the end of its list.
  */
+DW_MUST_CHECK
 uint32_t dw_look(const dw_walk *walk, uint32_t *f, uint32_t *g);
 
 /*
  * The pair at the walk's position, and the walk moves on.
- * Served: *f and *g are its codes; the walk's position is one more than it was, its degree the same. Otherwise *walk, *f and *g stay.
+ * Served: *f and *g are its codes; walk->position is one more than it was, walk->degree the same.
  * Refused: WALK_RECORD.
- * DW_SPENT: the walk is at the end of its list.
+ * DW_SPENT: the walk is at the end of its list, and stays there.
  */
+DW_MUST_CHECK
 uint32_t dw_draw(dw_walk *walk, uint32_t *f, uint32_t *g);
 
 #ifdef __cplusplus

@@ -22,6 +22,7 @@ CHECK(DW_REFUSED_FILE_ENDS == 9 && DW_REFUSED_NUMBER_FORM == 10 && DW_REFUSED_VE
 CHECK(DW_REFUSED_LEVEL_RANGE == 13 && DW_REFUSED_LEVEL_ORDER == 14 && DW_REFUSED_NAME_LENGTH == 15 && DW_REFUSED_NAME_BYTE == 16);
 CHECK(DW_REFUSED_TRAILING_BYTES == 17);
 CHECK(DW_CHAIN_ROOM == 32 && DW_LEVELS_ROOM == 64 && DW_SHEET_ROOM == 8192 && DW_FILE_ROOM == 429 && DW_NAME_ROOM == 40);
+CHECK(DW_STACK_ROOM == 8192 && DW_VERSION_MAJOR == 1 && DW_VERSION_MINOR == 0 && DW_VERSION == 1000);
 
 enum { SEED = 20261115, GUARD = 64, LARGEST = 1 << 14, SLOTS = 16 };
 
@@ -445,6 +446,49 @@ static void longest_file(void)
     count(dw_write(6, 67, 91, levels, 64, levels, 64, name, 41, file, sizeof file, &length), 15, "name of 41 bytes");
 }
 
+/* A pointer whose length is 0 may be null, in every call that takes one; a name of length 0 is served. */
+static void null_pointers(void)
+{
+    static const uint16_t levels[4] = { 1, 2, 3, 4 };
+    uint8_t file[DW_FILE_ROOM] = { 0 };
+    uint16_t powers[DW_LEVELS_ROOM] = { 0 }, forces[DW_LEVELS_ROOM] = { 0 };
+    uint32_t n = 9, f = 9, g = 9;
+    size_t length = 9, at = 9, size = 9;
+    count(dw_pairs_from(2, 0, NULL, 0, &size), 4, "null: pairs");
+    count(dw_pairs_from(2, 2, NULL, 0, &size), 2, "null: pairs at the end");
+    count(dw_chain(2, 7, 5, NULL, 0, &size, &n), 4, "null: quotients");
+    count(dw_sheet(2, 7, 5, NULL, 0), 4, "null: sheet");
+    count(dw_read(NULL, 0, powers, 64, forces, 64, &n, &f, &g, &at, &size), 9, "null: file to read");
+    count(dw_read(file, sizeof file, NULL, 0, forces, 64, &n, &f, &g, &at, &size), 4, "null: powers to read");
+    count(dw_read(file, sizeof file, powers, 64, NULL, 0, &n, &f, &g, &at, &size), 4, "null: forces to read");
+    count(dw_read(NULL, 0, NULL, 0, NULL, 0, &n, &f, &g, &at, &size), 4, "null: all to read");
+    count(dw_write(2, 7, 5, NULL, 0, levels, 4, NULL, 0, file, sizeof file, &length), 4, "null: powers");
+    count(dw_write(2, 7, 5, levels, 4, NULL, 0, NULL, 0, file, sizeof file, &length), 4, "null: forces");
+    count(dw_write(2, 7, 5, levels, 4, levels, 4, NULL, 0, NULL, 0, &length), 4, "null: file");
+    count(dw_write(2, 7, 5, NULL, 0, NULL, 0, NULL, 0, NULL, 0, &length), 4, "null: all");
+    expect(n == 9 && f == 9 && g == 9 && length == 9 && at == 9 && size == 9, "null: refused");
+    count(dw_write(2, 7, 5, levels, 4, levels, 4, NULL, 0, file, sizeof file, &length), 0, "null: name");
+    count(dw_read(file, length, powers, 64, forces, 64, &n, &f, &g, &at, &size), 0, "null: name to read");
+    expect(length == 13 && at == length && size == 0, "null: an empty name is at the file's end");
+}
+
+/* A record that is copied, kept and set to any position of its list; at the list's end the walk is spent. */
+static void kept_record(void)
+{
+    uint32_t f = 0, g = 0;
+    dw_walk walk, kept;
+    count(dw_start(4, &walk), 0, "kept record: start");
+    kept = walk;
+    walk.position = 41;
+    count(dw_draw(&walk, &f, &g), 0, "kept record: last");
+    expect(f == 19 && g == 25 && walk.position == 42, "kept record: pair 41");
+    count(dw_look(&walk, &f, &g), DW_SPENT, "kept record: spent");
+    count(dw_look(&kept, &f, &g), 0, "kept record: first");
+    expect(f == 19 && g == 17 && kept.degree == 4 && kept.position == 0, "kept record: pair 0");
+    walk.position = 43;
+    count(dw_look(&walk, &f, &g), 3, "kept record: behind the end");
+}
+
 /* The entries that document 01 prints. */
 static void printed_entries(void)
 {
@@ -483,6 +527,8 @@ int main(int argc, char **argv)
     part("printed entries", printed_entries, 1, 2, 2, spent);
     part("whole lists", whole_lists, 1, 0, 0, 0);
     part("longest file", longest_file, 1, 15, 15, 0);
+    part("null pointers", null_pointers, 1, 2, 2, four | bit(9));
+    part("kept record", kept_record, 1, 3, 3, spent);
     part("dw_length", try_length, 100 * scale, 1, 1, 0);
     part("dw_pair_at", try_pair_at, 300 * scale, 1, 2, 0);
     part("dw_pairs_from", try_pairs_from, 50 * scale, 1, 2, four);
