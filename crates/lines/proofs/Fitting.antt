@@ -3,7 +3,7 @@
 use mathlib.Core.Path.{_≡_, refl, sym, ap, _∙_}
 use mathlib.Core.Bool.{Bool, true, false, cond}
 use mathlib.Core.List.{List, [], _∷_, _++_, append-nil, append-assoc}
-use Prim.Native.Nat.{ℕ, zero, suc, _+_, _-_, _≤_}
+use Prim.Native.Nat.{ℕ, zero, suc, _+_, _-_, _≤_, _<_}
 use native.Mathlib.Nat.{sub-zero, add-zero, add-assoc}
 use native.Mathlib.Omega.{arith}
 use borrow.Author.Tests.{le-leb, leb-true}
@@ -68,17 +68,20 @@ fitting-more (suc m) room (l ∷ lines) = go (leb (length l) room) refl (fitting
         ap (_∷_ l) (rw less at ih)
     go false e ih = rw (sub-zero, e)
 
--- Where nothing is put of the first lines, nothing is put of all.
-fitting-none : (m room : ℕ) (lines : List (List ℕ)) → 1 ≤ m → length (fitting room (take m lines)) ≡ 0
+-- Where fewer than m are put of the first m lines, no more are put of all.
+fitting-fewer : (m room : ℕ) (lines : List (List ℕ)) → length (fitting room (take m lines)) < m
     → fitting room lines ≡ fitting room (take m lines)
-fitting-none zero room lines some e = absurd (omega arith)
-fitting-none (suc m) room [] some e = refl
-fitting-none (suc m) room (l ∷ lines) some e = go (leb (length l) room) e
+fitting-fewer zero room lines few = absurd (omega arith)
+fitting-fewer (suc m) room [] few = refl
+fitting-fewer (suc m) room (l ∷ lines) few = go (leb (length l) room) few (fitting-fewer m (room - length l) lines)
   where
-    go : (t : Bool) → length (cond t (l ∷ fitting (room - length l) (take m lines)) []) ≡ 0
-        → cond t (l ∷ fitting (room - length l) lines) [] ≡ cond t (l ∷ fitting (room - length l) (take m lines)) []
-    go true e = absurd (omega arith)
-    go false e = refl
+    front : List (List ℕ)
+    front = fitting (room - length l) (take m lines)
+
+    go : (t : Bool) → length (cond t (l ∷ front) []) < suc m → (length front < m → fitting (room - length l) lines ≡ front)
+        → cond t (l ∷ fitting (room - length l) lines) [] ≡ cond t (l ∷ front) []
+    go true few ih = ap (_∷_ l) (ih (omega arith))
+    go false few ih = refl
 
 put-none : (out : List ℕ) (at : ℕ) → put out at [] ≡ out
 unfolding put
@@ -135,10 +138,10 @@ module _ (m : ℕ) (lines : List (List ℕ)) {position : ℕ} {out : List ℕ} {
       all : used + length (joined (fitting (length out - used) lines)) ≤ length out
       all = omega (arith, fitting-le (length out - used) lines)
 
-  adds-last : 1 ≤ m → next ≡ position → Adds lines position out used used₁ next out₁
-  adds-last some e =
-      let none : fitting (length out - used) lines ≡ front = fitting-none m (length out - used) lines some (omega (arith, a .stop)) in
-      record { bytes = rw none (a .bytes); stop = rw none (a .stop) }
+  adds-last : next < position + m → Adds lines position out used used₁ next out₁
+  adds-last few =
+      let all : fitting (length out - used) lines ≡ front = fitting-fewer m (length out - used) lines (omega (arith, a .stop)) in
+      record { bytes = rw all (a .bytes); stop = rw all (a .stop) }
 
 -- `done` lines were put, and what is put of the others completes them.
 pub record Begun (lines : List (List ℕ)) (position : ℕ) (out : List ℕ) (used : ℕ) (done : ℕ) (out₁ : List ℕ) (used₁ : ℕ) : Type 0 where
@@ -166,5 +169,5 @@ module _ (m : ℕ) {lines : List (List ℕ)} {position : ℕ} {out : List ℕ} {
             (adds-more m (drop done lines) (b .room) a more (omega (arith, a .stop)) (rw (drop-drop more done lines, add-assoc, far) q));
       }
 
-  pub begun-last : 1 ≤ m → next ≡ position + done → Adds lines position out used used₂ next out₂
-  begun-last some e = b .rest used₂ next out₂ (adds-last m (drop done lines) (b .room) a some e)
+  pub begun-last : next < position + done + m → Adds lines position out used used₂ next out₂
+  begun-last few = b .rest used₂ next out₂ (adds-last m (drop done lines) (b .room) a few)

@@ -22,7 +22,8 @@ pub fn fill_lines(n: u32, position: u64, out: &mut [u8]) -> Filling
     let mut next = position;
     loop {
         let block = add_block(n, next, out, used);
-        if block.next == next {
+        // Fewer lines than positions: the list or the room is at its end.
+        if block.next - next < 256 {
             return block;
         }
         used = block.used;

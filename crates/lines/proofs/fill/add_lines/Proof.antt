@@ -38,7 +38,7 @@ module _ (position many : ℕ) (codes : List ℕ) {out₀ : List ℕ} {used i en
   stops h full =
       let none : fitting (length out - end) (lineFrom position codes i ∷ []) ≡ [] =
       rw (lt-leb (length (lineFrom position codes i)) (length out - end) full) in
-      begun-last 1 b (rw (line-next position many codes i h) (adds-none none)) (omega arith) refl
+      begun-last 1 b (rw (line-next position many codes i h) (adds-none none)) (omega arith)
 
   -- There is none.
   ends : i ≡ many → Adds (linesFrom position many codes) position out₀ used end (position + i) out

@@ -1,4 +1,4 @@
--- `fill_lines` meets its contract: block after block is put, until one puts nothing.
+-- `fill_lines` meets its contract: block after block is put, until one does not fit whole.
 use mathlib.Core.List.{List}
 use mathlib.Core.Path.{_≡_}
 use Prim.Native.Nat.{ℕ, _+_, _-_, _≤_, _<_}
@@ -33,21 +33,20 @@ module _ (n position : ℕ) {out₀ : List ℕ} {next : ℕ} {out : List ℕ} {u
   more : Begun (drop position (entryLines n)) position out₀ 0 (next′ - position) out′ used′
   more = begun-more 256 b block (next′ - position) (omega (arith, a .stop))
 
-  less : (next′ ≡ next → ⊥) → length (entryLines n) - next′ < length (entryLines n) - next
-  less ne =
+  less : 256 ≤ next′ - next → length (entryLines n) - next′ < length (entryLines n) - next
+  less many =
       omega (
         arith,
         a .stop,
         fitting-few (length out - used) (take 256 (drop next (entryLines n))),
         length-take 256 (drop next (entryLines n)),
         length-drop next (entryLines n),
-        ne,
       )
 
-  last : next′ ≡ next → Fills n position out₀ used′ next′ out′
+  last : next′ - next < 256 → Fills n position out₀ used′ next′ out′
   unfolding filled
-  last e =
-      let all : Adds (drop position (entryLines n)) position out₀ 0 used′ next′ out′ = begun-last 256 b block (omega arith) (omega arith) in
+  last few =
+      let all : Adds (drop position (entryLines n)) position out₀ 0 used′ next′ out′ = begun-last 256 b block (omega arith) in
       record {
         bytes = lined (rw sub-zero at (all .bytes)) (omega (arith, fitting-le (length out₀) (drop position (entryLines n))));
         stop = rw sub-zero at (all .stop);
@@ -60,6 +59,9 @@ loop-holds c =
 
 add-block-requires : tie.Need-add-block-requires Inv-loop μ-loop
 add-block-requires c κs = c .before .loop .inv .1 .room
+
+sub-if1 : tie.Need-sub-if1 Inv-loop μ-loop
+sub-if1 c = omega (arith, c .before .before .before .add-block .ensures .stop)
 
 same-length : tie.Need-same-length Inv-loop μ-loop
 same-length c =
@@ -96,6 +98,7 @@ fill-lines-spec =
     μ-loop
     loop-holds
     add-block-requires
+    sub-if1
     same-length
     returns
     loop-less
