@@ -10,7 +10,7 @@ use borrow.Author.Tests.{le-leb, leb-true}
 use lib.Dec.{leb}
 use lib.ListN.{length, take, drop, length-append, take-append-drop}
 use lib.Seq.{drop-drop}
-use Rattle.lines.specs.Text.{put, Puts}
+use Rattle.lines.specs.Text.{put, Placed}
 use Rattle.lines.specs.Filling.{joined, fitting}
 use Rattle.lines.specs.Inner.{Adds}
 use Rattle.lines.proofs.Putting.{length-put, puts-more}
@@ -97,7 +97,7 @@ adds-none {lines} {position} {out} {used} none = record {
 
 -- One line is put where it fits.
 pub adds-one : {l : List ℕ} {position : ℕ} {out : List ℕ} {used used′ : ℕ} {out′ : List ℕ} → length l ≤ length out - used
-    → Puts out used l used′ out′ → Adds (l ∷ []) position out used used′ (position + 1) out′
+    → Placed out used l used′ out′ → Adds (l ∷ []) position out used used′ (position + 1) out′
 adds-one {l} {position} {out} {used} {used′} {out′} fits p =
     let is : fitting (length out - used) (l ∷ []) ≡ l ∷ [] = rw (le-leb (length l) (length out - used) fits) in
     record { bytes = rw (is, append-nil) p; stop = rw is }

@@ -5,7 +5,7 @@ use mathlib.Core.List.{List, [], _∷_, _++_, append-assoc}
 use native.Mathlib.Omega.{arith}
 use lib.ListN.{length, length-append}
 use lib.Seq.{length-take-le}
-use Rattle.lines.specs.Text.{decimal, line, Puts, Lined, refusedText}
+use Rattle.lines.specs.Text.{decimal, line, Placed, Lined, refusedText}
 use Rattle.lines.proofs.Putting.{length-put, puts-more}
 
 -- A number and the byte that ends it.
@@ -18,7 +18,7 @@ line-2 a b = simp append-assoc
 line-3 : (a b c : ℕ) → line (a ∷ b ∷ c ∷ []) ≡ ended a 32 ++ ended b 32 ++ ended c 10
 line-3 a b c = simp append-assoc
 
-pub lined : {out bytes : List ℕ} {r : ℕ} {out′ : List ℕ} → Puts out 0 bytes r out′ → 0 + length bytes ≤ length out → Lined out bytes r out′
+pub lined : {out bytes : List ℕ} {r : ℕ} {out′ : List ℕ} → Placed out 0 bytes r out′ → 0 + length bytes ≤ length out → Lined out bytes r out′
 lined {out} {bytes} {r} {out′} p room =
     let size : r ≡ length bytes = omega (arith, p .next) in
     let kept : length out′ ≡ length out = ap length (p .after) ∙ length-put out 0 bytes room in
@@ -27,7 +27,7 @@ lined {out} {bytes} {r} {out′} p room =
 
 module _ {out : List ℕ} (long : length out ≡ 64) where
   pub lined-2 : (a b : ℕ) {r₁ r₂ : ℕ} {out₁ out₂ : List ℕ}
-      → Puts out 0 (ended a 32) r₁ out₁ → r₁ ≤ 0 + 21 → Puts out₁ r₁ (ended b 10) r₂ out₂ → r₂ ≤ r₁ + 21
+      → Placed out 0 (ended a 32) r₁ out₁ → r₁ ≤ 0 + 21 → Placed out₁ r₁ (ended b 10) r₂ out₂ → r₂ ≤ r₁ + 21
       → Lined out (line (a ∷ b ∷ [])) r₂ out₂
   lined-2 a b p₁ h₁ p₂ h₂ =
       let size = length-append (ended a 32) (ended b 10) in
@@ -35,8 +35,8 @@ module _ {out : List ℕ} (long : length out ≡ 64) where
       rw line-2 (lined (puts-more room p₁ p₂) room)
 
   pub lined-3 : (a b c : ℕ) {r₁ r₂ r₃ : ℕ} {out₁ out₂ out₃ : List ℕ}
-      → Puts out 0 (ended a 32) r₁ out₁ → r₁ ≤ 0 + 21 → Puts out₁ r₁ (ended b 32) r₂ out₂ → r₂ ≤ r₁ + 21
-      → Puts out₂ r₂ (ended c 10) r₃ out₃ → r₃ ≤ r₂ + 21 → Lined out (line (a ∷ b ∷ c ∷ [])) r₃ out₃
+      → Placed out 0 (ended a 32) r₁ out₁ → r₁ ≤ 0 + 21 → Placed out₁ r₁ (ended b 32) r₂ out₂ → r₂ ≤ r₁ + 21
+      → Placed out₂ r₂ (ended c 10) r₃ out₃ → r₃ ≤ r₂ + 21 → Lined out (line (a ∷ b ∷ c ∷ [])) r₃ out₃
   lined-3 a b c p₁ h₁ p₂ h₂ p₃ h₃ =
       let size₂ = length-append (ended a 32) (ended b 32) in
       let size₃ = length-append (ended a 32 ++ ended b 32) (ended c 10) in
@@ -45,7 +45,7 @@ module _ {out : List ℕ} (long : length out ≡ 64) where
       rw line-3 (lined (puts-more room₃ (puts-more room₂ p₁ p₂) p₃) room₃)
 
   pub lined-refusal : (a : ℕ) {r₁ r₂ : ℕ} {out₁ out₂ : List ℕ}
-      → Puts out 0 refusedText r₁ out₁ → Puts out₁ r₁ (ended a 10) r₂ out₂ → r₂ ≤ r₁ + 21
+      → Placed out 0 refusedText r₁ out₁ → Placed out₁ r₁ (ended a 10) r₂ out₂ → r₂ ≤ r₁ + 21
       → Lined out (refusedText ++ line (a ∷ [])) r₂ out₂
   lined-refusal a p₁ p₂ h₂ =
       let size = length-append refusedText (ended a 10) in

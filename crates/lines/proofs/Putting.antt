@@ -6,7 +6,7 @@ use native.Mathlib.Omega.{arith}
 use lib.ListN.{length, set, take, drop, length-append}
 use lib.Seq.{sets, length-sets, sets-eq, paste, take-length, take-append-seam}
 use Rattle.poly.proofs.Stores.{sets-append}
-use Rattle.lines.specs.Text.{put, Puts, Lined}
+use Rattle.lines.specs.Text.{put, Placed, Lined}
 
 put-sets : (out : List ℕ) (at : ℕ) (bytes : List ℕ) → at + length bytes ≤ length out → put out at bytes ≡ sets out at bytes
 unfolding put
@@ -21,15 +21,15 @@ unfolding put
 pasted out at bytes e = rw (e, take-length)
 
 -- One byte stored is a put.
-pub store : (out : List ℕ) (at byte : ℕ) → at < length out → Puts out at (byte ∷ []) (at + 1) (set out at byte)
+pub store : (out : List ℕ) (at byte : ℕ) → at < length out → Placed out at (byte ∷ []) (at + 1) (set out at byte)
 store out at byte h =
     let room : at + 1 ≤ length out = omega arith in
     record { next = refl; after = sym (put-sets out at (byte ∷ []) room) }
 
 -- Bytes put behind bytes.
 pub puts-more : {out : List ℕ} {at : ℕ} {bytes : List ℕ} {next : ℕ} {out′ : List ℕ} {more : List ℕ} {next′ : ℕ} {out″ : List ℕ}
-    → at + length (bytes ++ more) ≤ length out → Puts out at bytes next out′ → Puts out′ next more next′ out″
-    → Puts out at (bytes ++ more) next′ out″
+    → at + length (bytes ++ more) ≤ length out → Placed out at bytes next out′ → Placed out′ next more next′ out″
+    → Placed out at (bytes ++ more) next′ out″
 puts-more {out} {at} {bytes} {next} {out′} {more} {next′} {out″} room p q =
     let room₁ : at + length bytes ≤ length out = omega (arith, length-append bytes more) in
     let kept : length out′ ≡ length out = ap length (p .after) ∙ length-put out at bytes room₁ in

@@ -4,12 +4,12 @@ use Prim.Native.Nat.{ℕ, _+_, _-_, _*_}
 use mathlib.Core.List.{List, [], _∷_, map}
 use lib.ListN.{length, getD, take, drop}
 use Rattle.pairs.specs.Loops.{numbers}
-use Rattle.lines.specs.Text.{line, Puts}
+use Rattle.lines.specs.Text.{line, Placed}
 use Rattle.lines.specs.Filling.{joined, fitting, entryLines}
 
 -- Lines from a position on were put behind the first `used` bytes, as many as fit there.
 pub record Adds (lines : List (List ℕ)) (position : ℕ) (out : List ℕ) (used used′ next : ℕ) (out′ : List ℕ) : Type 0 where
-  pub bytes : Puts out used (joined (fitting (length out - used) lines)) used′ out′
+  pub bytes : Placed out used (joined (fitting (length out - used) lines)) used′ out′
   pub stop : next ≡ position + length (fitting (length out - used) lines)
 
 -- The lines of the next 256 positions, or as many as there are.

@@ -27,7 +27,7 @@ unfoldable pub put : List ℕ → ℕ → List ℕ → List ℕ
 put out at bytes = take at out ++ bytes ++ drop (at + length bytes) out
 
 -- The bytes are put at the position; the answer is the position behind them.
-pub record Puts (out : List ℕ) (at : ℕ) (bytes : List ℕ) (r : ℕ) (out′ : List ℕ) : Type 0 where
+pub record Placed (out : List ℕ) (at : ℕ) (bytes : List ℕ) (r : ℕ) (out′ : List ℕ) : Type 0 where
   pub next : r ≡ at + length bytes
   pub after : out′ ≡ put out at bytes
 

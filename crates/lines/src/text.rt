@@ -2,7 +2,7 @@
 ghost use mathlib.Core.List.{[], _∷_, _++_};
 ghost use Prim.Native.Nat.{_+_, _≤_};
 ghost use lib.ListN.{length};
-ghost use Rattle.lines.specs.Text.{decimal, line, Puts, Lined, refusedText};
+ghost use Rattle.lines.specs.Text.{decimal, line, Placed, Lined, refusedText};
 
 // The first line, degree and the length of the list, at the front of `out`. It gives the line's length.
 pub(crate) fn heading(degree: u32, count: u64, out: &mut [u8; 64]) -> usize
@@ -32,7 +32,7 @@ pub(crate) fn refusal_line(number: u32, out: &mut [u8; 64]) -> usize
 // A number and the byte that ends it, at a position of `out`. A number has at most 20 digits.
 fn field(n: u64, end: u8, out: &mut [u8], at: usize) -> usize
     requires { ⌜ at + 21 ≤ length (now out) ⌝ }
-    ensures { λ r. ⌜ Puts (now (out .entry)) at (decimal n ++ (end ∷ [])) r (now (out .exit)) ⌝ }
+    ensures { λ r. ⌜ Placed (now (out .entry)) at (decimal n ++ (end ∷ [])) r (now (out .exit)) ⌝ }
     ensures { λ r. ⌜ r ≤ at + 21 ⌝ }
 {
     let mut text = [0u8; 20];
@@ -45,7 +45,7 @@ fn field(n: u64, end: u8, out: &mut [u8], at: usize) -> usize
 // Puts bytes at a position of `out`, and gives the position behind them.
 pub(crate) fn copy(bytes: &[u8], out: &mut [u8], at: usize) -> usize
     requires { ⌜ at + length (now bytes) ≤ length (now out) ⌝ }
-    ensures { λ r. ⌜ Puts (now (out .entry)) at (now (bytes .entry)) r (now (out .exit)) ⌝ }
+    ensures { λ r. ⌜ Placed (now (out .entry)) at (now (bytes .entry)) r (now (out .exit)) ⌝ }
 {
     let mut i: usize = 0;
     while i < bytes.len() {

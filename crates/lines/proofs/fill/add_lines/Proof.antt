@@ -1,11 +1,10 @@
 -- `add_lines` meets its contract: in each turn the next line is put, up to the first that does not fit.
 use mathlib.Core.List.{List, [], _∷_}
-use mathlib.Core.Path.{_≡_, refl}
 use Prim.Native.Nat.{ℕ, _+_, _-_, _≤_, _<_}
 use native.Mathlib.Omega.{arith}
 use borrow.Author.Tests.{lt-leb}
 use lib.ListN.{length, take, drop}
-use Rattle.lines.specs.Text.{Puts}
+use Rattle.lines.specs.Text.{Placed}
 use Rattle.lines.specs.Filling.{fitting}
 use Rattle.lines.specs.Inner.{Adds, lineFrom, linesFrom}
 use Rattle.lines.proofs.Block.{line-next, no-more}
@@ -26,7 +25,7 @@ module _ (position many : ℕ) (codes : List ℕ) {out₀ : List ℕ} {used i en
     (b : Begun (linesFrom position many codes) position out₀ used i out end) where
   -- The next line is put.
   goes-on : {used′ : ℕ} {out′ : List ℕ} → i < many → length (lineFrom position codes i) ≤ length out - end
-      → Puts out end (lineFrom position codes i) used′ out′ → Begun (linesFrom position many codes) position out₀ used (i + 1) out′ used′
+      → Placed out end (lineFrom position codes i) used′ out′ → Begun (linesFrom position many codes) position out₀ used (i + 1) out′ used′
   goes-on {used′} {out′} h fits p =
       let one : Adds (take 1 (drop i (linesFrom position many codes))) (position + i) out end used′ (position + i + 1) out′ =
       rw (line-next position many codes i h) (adds-one fits p) in
