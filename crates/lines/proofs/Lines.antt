@@ -18,7 +18,8 @@ line-2 a b = simp append-assoc
 line-3 : (a b c : ℕ) → line (a ∷ b ∷ c ∷ []) ≡ ended a 32 ++ ended b 32 ++ ended c 10
 line-3 a b c = simp append-assoc
 
-pub lined : {out bytes : List ℕ} {r : ℕ} {out′ : List ℕ} → Placed out 0 bytes r out′ → 0 + length bytes ≤ length out → Lined out bytes r out′
+pub lined : {out bytes : List ℕ} {r : ℕ} {out′ : List ℕ} → Placed out 0 bytes r out′ → 0 + length bytes ≤ length out
+    → Lined out bytes r out′
 lined {out} {bytes} {r} {out′} p room =
     let size : r ≡ length bytes = omega (arith, p .next) in
     let kept : length out′ ≡ length out = ap length (p .after) ∙ length-put out 0 bytes room in
