@@ -1,6 +1,5 @@
 -- `fill_lines` meets its contract: block after block is put, until one does not fit whole.
 use mathlib.Core.List.{List}
-use mathlib.Core.Path.{_≡_}
 use Prim.Native.Nat.{ℕ, _+_, _-_, _≤_, _<_}
 use native.Mathlib.Nat.{sub-zero, sub-self, add-sub-of-le}
 use native.Mathlib.Omega.{arith}
