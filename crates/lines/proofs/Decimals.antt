@@ -4,10 +4,8 @@ use Prim.Native.Nat.{ℕ, zero, suc, _+_, _-_, _/_, _%_, _^_, _≤_, _<_}
 use mathlib.Core.List.{[], _∷_}
 use native.Mathlib.Nat.{pow-suc}
 use native.Mathlib.Numerals.{sub-one}
-use native.Mathlib.Decide.{decLt}
 use native.Mathlib.Omega.{arith}
 use lib.ListN.{length, length-append}
-use lib.Pow.{pow-add}
 use borrow.Author.Tests.{lt-ltb}
 use Rattle.io.specs.Digits.{digits, glyph, Fewest}
 use Rattle.lines.specs.Text.{digitsIn, decimal}
@@ -50,19 +48,6 @@ decimal-digits n (suc k) (least, low, high) =
     rw (digits-in k n (n / 10) (omega arith) (tenth-low k n low) more, glyph-last n)
 
 -- A number of 64 bits has at most 20 digits.
-too-many : (j n : ℕ) → 10 ^ (20 + j) ≤ n → n < 2 ^ 64 → ⊥
-too-many j n high fits = omega (arith, pow-add 10 20 j, ten-pos j)
-
-pub at-most-20 : (n k : ℕ) → Fewest 10 1 n k → n < 2 ^ 64 → k ≤ 20
-at-most-20 n k (least, low, high) fits = go (decLt 20 k)
-  where
-    go : Dec (20 < k) → k ≤ 20
-    go (no h) = omega arith
-    go (yes h) =
-        let e : k - 1 ≡ 20 + (k - 21) = omega arith in
-        absurd (too-many (k - 21) n (rw e at (high (omega arith))) fits)
-
--- So its decimal text has at most 20 bytes.
 digits-short : (k fuel n : ℕ) → n < 10 ^ k → length (digitsIn fuel n) ≤ k
 digits-short k zero n low = omega arith
 digits-short k (suc fuel) zero low = omega arith

@@ -5,14 +5,15 @@ use mathlib.Core.Bool.{Bool, true, false, cond}
 use mathlib.Core.List.{List, [], _∷_, _++_, append-nil, append-assoc}
 use Prim.Native.Nat.{ℕ, zero, suc, _+_, _-_, _≤_, _<_}
 use native.Mathlib.Nat.{sub-zero, add-zero, add-assoc}
+use native.Mathlib.Decide.{decLt}
 use native.Mathlib.Omega.{arith}
-use borrow.Author.Tests.{le-leb, leb-true}
+use borrow.Author.Tests.{le-leb, lt-leb, leb-true}
 use lib.Dec.{leb}
 use lib.ListN.{length, take, drop, length-append, take-append-drop}
 use lib.Seq.{drop-drop}
 use Rattle.lines.specs.Text.{put, Placed}
 use Rattle.lines.specs.Filling.{joined, fitting}
-use Rattle.lines.specs.Inner.{Adds}
+use Rattle.lines.specs.Inner.{Adds, AddsLine}
 use Rattle.lines.proofs.Putting.{length-put, puts-more}
 
 pub joined-append : (a b : List (List ℕ)) → joined (a ++ b) ≡ joined a ++ joined b
@@ -95,12 +96,35 @@ adds-none {lines} {position} {out} {used} none = record {
   stop = rw none (sym (add-zero position));
 }
 
--- One line is put where it fits.
-pub adds-one : {l : List ℕ} {position : ℕ} {out : List ℕ} {used used′ : ℕ} {out′ : List ℕ} → length l ≤ length out - used
-    → Placed out used l used′ out′ → Adds (l ∷ []) position out used used′ (position + 1) out′
-adds-one {l} {position} {out} {used} {used′} {out′} fits p =
-    let is : fitting (length out - used) (l ∷ []) ≡ l ∷ [] = rw (le-leb (length l) (length out - used) fits) in
-    record { bytes = rw (is, append-nil) p; stop = rw is }
+-- One line is put where it fits, and the bytes stay as they are where it does not.
+one : (room : ℕ) (l : List ℕ) → length l ≤ room → fitting room (l ∷ []) ≡ l ∷ []
+one room l fits = rw (le-leb (length l) room fits)
+
+none : (room : ℕ) (l : List ℕ) → room < length l → fitting room (l ∷ []) ≡ []
+none room l full = rw (lt-leb (length l) room full)
+
+pub line-fits : {l out : List ℕ} {used used′ : ℕ} {out′ : List ℕ} → length l ≤ length out - used → Puts out used l used′ out′
+    → AddsLine l out used used′ out′
+line-fits {l} {out} {used} fits p = record { bytes = rw (one (length out - used) l fits, append-nil) p }
+
+pub line-full : (l : List ℕ) {out : List ℕ} {used : ℕ} → length out - used < length l → AddsLine l out used used out
+line-full l {out} {used} full = record { bytes = adds-none {lines = l ∷ []} {position = 0} (none (length out - used) l full) .bytes }
+
+-- Which it was is told by the bytes used.
+module _ {l out : List ℕ} {used used′ : ℕ} {out′ : List ℕ} (p : AddsLine l out used used′ out′) {position : ℕ} where
+  pub adds-line : (used′ ≡ used → ⊥) → Adds (l ∷ []) position out used used′ (position + 1) out′
+  adds-line more = elim (decLt (length out - used) (length l)) [
+    | yes full ↦ absurd (more (omega (arith, ap (λ s. length (joined s)) (none (length out - used) l full), p .bytes .next)))
+    | no fits ↦ record { bytes = p .bytes; stop = rw (one (length out - used) l (omega arith)) }
+  ]
+
+  pub adds-no-line : 1 ≤ length l → used′ ≡ used → Adds (l ∷ []) position out used used′ position out′
+  adds-no-line some same = elim (decLt (length out - used) (length l)) [
+    | yes full ↦ record { bytes = p .bytes; stop = rw (none (length out - used) l full) (sym (add-zero position)) }
+    | no fits ↦
+        let is = ap (λ s. length (joined s)) (one (length out - used) l (omega arith)) in
+        absurd (omega (arith, length-append l [], p .bytes .next))
+  ]
 
 -- First of the first m lines, then of those behind what was put.
 module _ (m : ℕ) (lines : List (List ℕ)) {position : ℕ} {out : List ℕ} {used used₁ next : ℕ} {out₁ : List ℕ}

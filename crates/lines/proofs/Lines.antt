@@ -26,6 +26,19 @@ lined {out} {bytes} {r} {out′} p room =
     let fits : r ≤ length out′ = omega arith in
     record { size = size; content = p .after; within = (fits, sym (length-take-le r out′ fits)) }
 
+pub line-some : (a b c : ℕ) → 1 ≤ length (line (a ∷ b ∷ c ∷ []))
+line-some a b c = omega (arith, length-append (decimal a) (32 ∷ line (b ∷ c ∷ [])))
+
+pub puts-3 : {out : List ℕ} {at : ℕ} (a b c : ℕ) {r₁ r₂ r₃ : ℕ} {out₁ out₂ out₃ : List ℕ} → at + 63 ≤ length out
+    → Puts out at (ended a 32) r₁ out₁ → r₁ ≤ at + 21 → Puts out₁ r₁ (ended b 32) r₂ out₂ → r₂ ≤ r₁ + 21
+    → Puts out₂ r₂ (ended c 10) r₃ out₃ → r₃ ≤ r₂ + 21 → Puts out at (line (a ∷ b ∷ c ∷ [])) r₃ out₃
+puts-3 {out} {at} a b c room p₁ h₁ p₂ h₂ p₃ h₃ =
+    let size₂ = length-append (ended a 32) (ended b 32) in
+    let size₃ = length-append (ended a 32 ++ ended b 32) (ended c 10) in
+    let room₂ : at + length (ended a 32 ++ ended b 32) ≤ length out = omega (arith, p₁ .next, p₂ .next) in
+    let room₃ : at + length (ended a 32 ++ ended b 32 ++ ended c 10) ≤ length out = omega (arith, p₁ .next, p₂ .next, p₃ .next) in
+    rw line-3 (puts-more room₃ (puts-more room₂ p₁ p₂) p₃)
+
 module _ {out : List ℕ} (long : length out ≡ 64) where
   pub lined-2 : (a b : ℕ) {r₁ r₂ : ℕ} {out₁ out₂ : List ℕ}
       → Placed out 0 (ended a 32) r₁ out₁ → r₁ ≤ 0 + 21 → Placed out₁ r₁ (ended b 10) r₂ out₂ → r₂ ≤ r₁ + 21
@@ -34,16 +47,6 @@ module _ {out : List ℕ} (long : length out ≡ 64) where
       let size = length-append (ended a 32) (ended b 10) in
       let room : 0 + length (ended a 32 ++ ended b 10) ≤ length out = omega (arith, p₁ .next, p₂ .next) in
       rw line-2 (lined (puts-more room p₁ p₂) room)
-
-  pub lined-3 : (a b c : ℕ) {r₁ r₂ r₃ : ℕ} {out₁ out₂ out₃ : List ℕ}
-      → Placed out 0 (ended a 32) r₁ out₁ → r₁ ≤ 0 + 21 → Placed out₁ r₁ (ended b 32) r₂ out₂ → r₂ ≤ r₁ + 21
-      → Placed out₂ r₂ (ended c 10) r₃ out₃ → r₃ ≤ r₂ + 21 → Lined out (line (a ∷ b ∷ c ∷ [])) r₃ out₃
-  lined-3 a b c p₁ h₁ p₂ h₂ p₃ h₃ =
-      let size₂ = length-append (ended a 32) (ended b 32) in
-      let size₃ = length-append (ended a 32 ++ ended b 32) (ended c 10) in
-      let room₂ : 0 + length (ended a 32 ++ ended b 32) ≤ length out = omega (arith, p₁ .next, p₂ .next) in
-      let room₃ : 0 + length (ended a 32 ++ ended b 32 ++ ended c 10) ≤ length out = omega (arith, p₁ .next, p₂ .next, p₃ .next) in
-      rw line-3 (lined (puts-more room₃ (puts-more room₂ p₁ p₂) p₃) room₃)
 
   pub lined-refusal : (a : ℕ) {r₁ r₂ : ℕ} {out₁ out₂ : List ℕ}
       → Placed out 0 refusedText r₁ out₁ → Placed out₁ r₁ (ended a 10) r₂ out₂ → r₂ ≤ r₁ + 21

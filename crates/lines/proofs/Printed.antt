@@ -22,6 +22,7 @@ use Rattle.lines.specs.Output.{firstLine, entryLine, printed}
 use Rattle.lines.specs.Filling.{joined, fitting, entryLines, filled, Fills}
 use Rattle.lines.specs.Claims.{pieces, PrintClaim}
 use Rattle.lines.proofs.Decimals.{decimal-short}
+use Rattle.lines.proofs.Lines.{line-some}
 use Rattle.lines.proofs.Inputs.{input-asks}
 use Rattle.lines.proofs.Block.{listed-entries}
 use Rattle.lines.proofs.Fitting.{joined-append, fitting-front, fitting-few}
@@ -40,8 +41,7 @@ fills-on {n} {position} {out} {used} f ne =
     (omega (arith, f .stop), omega (arith, f .stop, length-drop position (entryLines n)))
 
 -- Three numbers of 64 bits, each with the byte that ends it.
-line-size : (a b c : ℕ) → a < 2 ^ 64 → b < 2 ^ 64 → c < 2 ^ 64
-    → (1 ≤ length (line (a ∷ b ∷ c ∷ []))) × (length (line (a ∷ b ∷ c ∷ [])) ≤ 63)
+line-size : (a b c : ℕ) → a < 2 ^ 64 → b < 2 ^ 64 → c < 2 ^ 64 → length (line (a ∷ b ∷ c ∷ [])) ≤ 63
 line-size a b c ha hb hc =
     let da = decimal-short a ha in
     let db = decimal-short b hb in
@@ -49,7 +49,7 @@ line-size a b c ha hb hc =
     let la = length-append (decimal a) (32 ∷ line (b ∷ c ∷ [])) in
     let lb = length-append (decimal b) (32 ∷ line (c ∷ [])) in
     let lc = length-append (decimal c) (10 ∷ []) in
-    (omega arith, omega arith)
+    omega arith
 
 module _ (n : ℕ) (on : outside 1 31 n ≡ false) where
   entry-size : (j : ℕ) → j < listLength n → (1 ≤ length (entryLine n j)) × (length (entryLine n j) ≤ 63)
@@ -57,9 +57,11 @@ module _ (n : ℕ) (on : outside 1 31 n ≡ false) where
       let (low, high) = within 1 31 on in
       let pair = entries-coprime n j (rw length-pairs h) in
       let top : 2 ^ suc n ≤ 2 ^ 32 = pow-le-pow-right (lit< tt) {i = suc n} {j = 32} (omega arith) in
-      rw (pair-answers n low high j h)
-      (line-size j (entry n j .f) (entry n j .g) (omega (arith, list-length-lt n high)) (omega (arith, pair .degree-f .high))
-      (omega (arith, pair .degree-g .high)))
+      rw (pair-answers n low high j h) (
+        line-some j (entry n j .f) (entry n j .g),
+        line-size j (entry n j .f) (entry n j .g) (omega (arith, list-length-lt n high)) (omega (arith, pair .degree-f .high))
+            (omega (arith, pair .degree-g .high)),
+      )
 
   module _ (room : ℕ) (wide : 64 ≤ room) where
     -- Before the list's end a filling is not empty.

@@ -12,6 +12,10 @@ pub record Adds (lines : List (List ℕ)) (position : ℕ) (out : List ℕ) (use
   pub bytes : Placed out used (joined (fitting (length out - used) lines)) used′ out′
   pub stop : next ≡ position + length (fitting (length out - used) lines)
 
+-- The same of one line.
+pub record AddsLine (l out : List ℕ) (used used′ : ℕ) (out′ : List ℕ) : Type 0 where
+  pub bytes : Puts out used (joined (fitting (length out - used) (l ∷ []))) used′ out′
+
 -- The lines of the next 256 positions, or as many as there are.
 abbrev pub blockLines : ℕ → ℕ → List (List ℕ)
 blockLines n position = take 256 (drop position (entryLines n))

@@ -1,12 +1,12 @@
 // Fills lent bytes with the lines of a degree's list.
 use crate::text::copy;
 use crate::text::pair_line;
+use crate::text::put_pair;
 use listing::Filled;
 ghost use Prim.Native.Nat.{_^_, _≤_, _<_};
 ghost use lib.ListN.{length};
-ghost use Rattle.lines.specs.Text.{Lined};
 ghost use Rattle.lines.specs.Filling.{Fills};
-ghost use Rattle.lines.specs.Inner.{Adds, blockLines, lineFrom, linesFrom};
+ghost use Rattle.lines.specs.Inner.{Adds, AddsLine, blockLines, lineFrom, linesFrom};
 
 // How many bytes were filled, and the position behind the last line put.
 pub struct Filling {
@@ -51,18 +51,17 @@ fn add_lines(from: u64, many: usize, codes: &[u32; 512], out: &mut [u8], used: u
     requires { ⌜ (from < 2 ^ 63) × (many ≤ 256) × (used ≤ length (now out)) ⌝ }
     ensures { λ r. ⌜ Adds (linesFrom from many (now (codes .entry))) from (now (out .entry)) used (r .used) (r .next) (now (out .exit)) ⌝ }
 {
-    let mut line = [0u8; 64];
     let mut end = used;
     let mut i: usize = 0;
     while i < many {
-        let size = line_at(from, i, codes, &mut line);
-        if out.len() - end < size {
+        let next = add_line(from, i, codes, out, end);
+        if next == end {
             return Filling {
                 used: end,
                 next: from + i as u64,
             };
         }
-        end = copy(&line[..size], out, end);
+        end = next;
         i += 1;
     }
     Filling {
@@ -71,10 +70,21 @@ fn add_lines(from: u64, many: usize, codes: &[u32; 512], out: &mut [u8], used: u
     }
 }
 
-// The line of the i-th of them. Where `pairs_from` gave the codes, it is the line of the pair's own position (the law `block-lines`).
-fn line_at(from: u64, i: usize, codes: &[u32; 512], out: &mut [u8; 64]) -> usize
-    requires { ⌜ (from < 2 ^ 63) × (i < 256) ⌝ }
-    ensures { λ r. ⌜ Lined (now (out .entry)) (lineFrom from (now (codes .entry)) i) r (now (out .exit)) ⌝ }
+// The line of the i-th pair behind the `used` bytes, where it fits. With room for any line it is made in its place, else apart. Where
+// `pairs_from` gave the codes, it is the line of the pair's own position (the law `block-lines`).
+fn add_line(from: u64, i: usize, codes: &[u32; 512], out: &mut [u8], used: usize) -> usize
+    requires { ⌜ (from < 2 ^ 63) × (i < 256) × (used ≤ length (now out)) ⌝ }
+    ensures { λ r. ⌜ AddsLine (lineFrom from (now (codes .entry)) i) (now (out .entry)) used r (now (out .exit)) ⌝ }
 {
-    pair_line(from + i as u64, codes[2 * i], codes[2 * i + 1], out)
+    let f = codes[2 * i];
+    let g = codes[2 * i + 1];
+    if 63 <= out.len() - used {
+        return put_pair(from + i as u64, f, g, out, used);
+    }
+    let mut line = [0u8; 64];
+    let size = pair_line(from + i as u64, f, g, &mut line);
+    if out.len() - used < size {
+        return used;
+    }
+    copy(&line[..size], out, used)
 }

@@ -16,9 +16,18 @@ pub(crate) fn heading(degree: u32, count: u64, out: &mut [u8; 64]) -> usize
 pub(crate) fn pair_line(position: u64, f: u32, g: u32, out: &mut [u8; 64]) -> usize
     ensures { λ r. ⌜ Lined (now (out .entry)) (line (position ∷ f ∷ g ∷ [])) r (now (out .exit)) ⌝ }
 {
-    let at = field(position, b' ', out, 0);
-    let at = field(f as u64, b' ', out, at);
-    field(g as u64, b'\n', out, at)
+    put_pair(position, f, g, out, 0)
+}
+
+// The same at a position of any slice.
+pub(crate) fn put_pair(position: u64, f: u32, g: u32, out: &mut [u8], at: usize) -> usize
+    requires { ⌜ at + 63 ≤ length (now out) ⌝ }
+    ensures { λ r. ⌜ Puts (now (out .entry)) at (line (position ∷ f ∷ g ∷ [])) r (now (out .exit)) ⌝ }
+    ensures { λ r. ⌜ r ≤ at + 63 ⌝ }
+{
+    let next = field(position, b' ', out, at);
+    let last = field(f as u64, b' ', out, next);
+    field(g as u64, b'\n', out, last)
 }
 
 // The line of a refusal, likewise.

@@ -1,82 +1,77 @@
 -- `add_lines` meets its contract: in each turn the next line is put, up to the first that does not fit.
-use mathlib.Core.List.{List, [], _∷_}
-use mathlib.Core.Path.{_≡_}
-use Prim.Native.Nat.{ℕ, _+_, _-_, _≤_, _<_}
+use mathlib.Core.List.{List, []}
+use mathlib.Core.Path.{_≡_, refl}
+use Prim.Native.Nat.{ℕ, _+_, _-_, _*_, _≤_, _<_}
 use native.Mathlib.Omega.{arith}
-use borrow.Author.Tests.{lt-leb}
-use lib.ListN.{length, take, drop}
-use Rattle.lines.specs.Text.{Placed}
-use Rattle.lines.specs.Filling.{fitting}
-use Rattle.lines.specs.Inner.{Adds, lineFrom, linesFrom}
+use lib.ListN.{length, take, drop, getD}
+use Rattle.lines.specs.Inner.{Adds, AddsLine, lineFrom, linesFrom}
+use Rattle.lines.proofs.Lines.{line-some}
 use Rattle.lines.proofs.Block.{line-next, no-more}
-use Rattle.lines.proofs.Putting.{lined-front}
-use Rattle.lines.proofs.Fitting.{Begun, begun, begun-more, begun-last, adds-none, adds-one}
+use Rattle.lines.proofs.Fitting.{Begun, begun, begun-more, begun-last, adds-none, adds-line, adds-no-line}
 use borrow.Author.Needs.{needs}
 use Rattle.lines.proofs.fill.add_lines.Statement.{statement}
 use Rattle.lines.proofs.fill.add_lines.Tie as tie
 
 abbrev Inv-loop : tie.InvT-loop
-Inv-loop position many codes out₀ used line₀ end₀ i₀ out line end i =
-    Begun (linesFrom position many codes) position out₀ used i out end × (i ≤ many)
+Inv-loop from many codes out₀ used end₀ i₀ out end i =
+    Begun (linesFrom from many codes) from out₀ used i out end × (i ≤ many)
 
 abbrev μ-loop : tie.MeasureT-loop
-μ-loop position many codes out₀ used line₀ end₀ i₀ out line end i = many - i
+μ-loop from many codes out₀ used end₀ i₀ out end i = many - i
 
-module _ (position many : ℕ) (codes : List ℕ) {out₀ : List ℕ} {used i end : ℕ} {out : List ℕ}
-    (b : Begun (linesFrom position many codes) position out₀ used i out end) where
-  -- The next line is put.
-  goes-on : {used′ : ℕ} {out′ : List ℕ} → i < many → length (lineFrom position codes i) ≤ length out - end
-      → Placed out end (lineFrom position codes i) used′ out′ → Begun (linesFrom position many codes) position out₀ used (i + 1) out′ used′
-  goes-on {used′} {out′} h fits p =
-      let one : Adds (take 1 (drop i (linesFrom position many codes))) (position + i) out end used′ (position + i + 1) out′ =
-      rw (line-next position many codes i h) (adds-one fits p) in
-      begun-more 1 b one (i + 1) (omega arith)
+module _ (from many : ℕ) (codes : List ℕ) {out₀ : List ℕ} {used i end : ℕ} {out : List ℕ}
+    (b : Begun (linesFrom from many codes) from out₀ used i out end) where
+  module _ (h : i < many) {used′ : ℕ} {out′ : List ℕ} (p : AddsLine (lineFrom from codes i) out end used′ out′) where
+    -- The next line is put.
+    goes-on : (used′ ≡ end → ⊥) → Begun (linesFrom from many codes) from out₀ used (i + 1) out′ used′
+    goes-on more =
+        let put : Adds (take 1 (drop i (linesFrom from many codes))) (from + i) out end used′ (from + i + 1) out′ =
+        rw (line-next from many codes i h) (adds-line p more) in
+        begun-more 1 b put (i + 1) (omega arith)
 
-  -- It does not fit.
-  stops : i < many → length out - end < length (lineFrom position codes i)
-      → Adds (linesFrom position many codes) position out₀ used end (position + i) out
-  stops h full =
-      let none : fitting (length out - end) (lineFrom position codes i ∷ []) ≡ [] =
-      rw (lt-leb (length (lineFrom position codes i)) (length out - end) full) in
-      begun-last 1 b (rw (line-next position many codes i h) (adds-none none)) (omega arith)
+    -- It does not fit.
+    module _ (same : used′ ≡ end) where
+      nothing : Adds (take 1 (drop i (linesFrom from many codes))) (from + i) out end used′ (from + i) out′
+      nothing =
+          let some = line-some (from + i) (getD codes (2 * i) 0) (getD codes (2 * i + 1) 0) in
+          rw (line-next from many codes i h) (adds-no-line p some same)
+
+      kept : length out′ ≡ length out₀
+      kept = begun-more 1 b nothing i refl .kept
+
+      stops : Adds (linesFrom from many codes) from out₀ used end (from + i) out′
+      stops = rw same at (begun-last 1 b nothing (omega arith))
 
   -- There is none.
-  ends : i ≡ many → Adds (linesFrom position many codes) position out₀ used end (position + i) out
+  ends : i ≡ many → Adds (linesFrom from many codes) from out₀ used end (from + i) out
   ends e =
-      let none : drop i (linesFrom position many codes) ≡ [] = rw e (no-more position many codes) in
-      b .rest end (position + i) out (adds-none (rw none))
+      let none : drop i (linesFrom from many codes) ≡ [] = rw e (no-more from many codes) in
+      b .rest end (from + i) out (adds-none (rw none))
 
 loop-holds : tie.Need-loop-holds Inv-loop μ-loop
 loop-holds c = (begun (c .before .pre .2), omega arith)
 
-line-at-requires : tie.Need-line-at-requires Inv-loop μ-loop
-line-at-requires c κs = search needs
+add-line-requires : tie.Need-add-line-requires Inv-loop μ-loop
+add-line-requires c κs =
+    let s = c .before .before in
+    (s .before .before .pre .0, omega arith, s .loop .inv .0 .room)
 
-sub-if1 : tie.Need-sub-if1 Inv-loop μ-loop
-sub-if1 c = c .before .before .before .loop .inv .0 .room
-
-add-t15 : tie.Need-add-t15 Inv-loop μ-loop
-add-t15 c = search needs
+add-t13 : tie.Need-add-t13 Inv-loop μ-loop
+add-t13 c = search needs
 
 same-length : tie.Need-same-length Inv-loop μ-loop
-same-length c = c .before .before .before .before .loop .inv .0 .kept
+same-length c =
+    let s = c .before .before .before .before .before .before in
+    let a = s .before .before .args in
+    let below = c .before .before .before .before .before .loop-test .taken in
+    kept (a .from) (a .many) (a .codes .now) (s .loop .inv .0) below (c .before .before .before .add-line .ensures) (c .if1 .taken)
 
 returns : tie.Need-returns Inv-loop μ-loop
 returns c =
-    let l = c .before .line-at .ensures in
-    let s = c .before .before .before .before in
+    let s = c .before .before .before .before .before .before in
     let a = s .before .before .args in
-    let below = c .before .before .before .loop-test .taken in
-    stops (a .from) (a .many) (a .codes .now) (s .loop .inv .0) below (omega (arith, l .size, c .if1 .taken))
-
-array-share-prefix-line : tie.Need-array-share-prefix-line Inv-loop μ-loop
-array-share-prefix-line c = search needs
-
-slice-aggregate-copy : tie.Need-slice-aggregate-copy Inv-loop μ-loop
-slice-aggregate-copy c = search needs
-
-copy-requires : tie.Need-copy-requires Inv-loop μ-loop
-copy-requires c κs = search needs
+    let below = c .before .before .before .before .before .loop-test .taken in
+    stops (a .from) (a .many) (a .codes .now) (s .loop .inv .0) below (c .before .before .before .add-line .ensures) (c .if1 .taken)
 
 add-i : tie.Need-add-i Inv-loop μ-loop
 add-i c = search needs
@@ -86,19 +81,15 @@ loop-less c = search needs
 
 loop-again : tie.Need-loop-again Inv-loop μ-loop
 loop-again c =
-    let s = c .before .before .before .before .before .before .before .before .before in
-    let l = c .before .before .before .before .before .before .line-at .ensures in
-    let fits = c .before .before .before .before .before .if1 .left in
-    let bytes = lined-front l in
-    let below = c .before .before .before .before .before .before .before .before .loop-test .taken in
-    let a = s .before .before .args in (
-      goes-on (a .from) (a .many) (a .codes .now) (s .loop .inv .0) below (omega (arith, l .size, fits))
-          (rw bytes at (c .before .before .copy .ensures)),
+    let s = c .before .before .before .before .before .before in
+    let a = s .before .before .args in
+    let below = c .before .before .before .before .before .loop-test .taken in (
+      goes-on (a .from) (a .many) (a .codes .now) (s .loop .inv .0) below (c .before .before .before .add-line .ensures) (c .if1 .left),
       omega arith,
     )
 
-add-t21 : tie.Need-add-t21 Inv-loop μ-loop
-add-t21 c = search needs
+add-t15 : tie.Need-add-t15 Inv-loop μ-loop
+add-t15 c = search needs
 
 same-length-2 : tie.Need-same-length-2 Inv-loop μ-loop
 same-length-2 c = c .before .loop .inv .0 .kept
@@ -115,17 +106,13 @@ add-lines-spec =
     Inv-loop
     μ-loop
     loop-holds
-    line-at-requires
-    sub-if1
-    add-t15
+    add-line-requires
+    add-t13
     same-length
     returns
-    array-share-prefix-line
-    slice-aggregate-copy
-    copy-requires
     add-i
     loop-less
     loop-again
-    add-t21
+    add-t15
     same-length-2
     returns-2)

@@ -5,21 +5,18 @@ use Prim.Native.Nat.{_+_, _≤_, _<_}
 use native.Mathlib.Omega.{arith}
 use lib.ListN.{length, length-append, take}
 use Rattle.lines.specs.Text.{decimal}
-use Rattle.lines.proofs.Decimals.{decimal-digits, at-most-20}
+use Rattle.lines.proofs.Decimals.{decimal-digits, decimal-short}
 use Rattle.lines.proofs.Putting.{length-put, store, puts-more}
 use borrow.Author.Needs.{needs}
 use Rattle.lines.proofs.text.field.Statement.{statement}
 use Rattle.lines.proofs.text.field.Tie as tie
 
--- There are at most 20 digits, and they are the decimal digits.
-few : (c : tie.After-decimal) → length (take (c .decimal .result) (c .decimal .last .1 .0)) ≤ 20
-few c =
-    let d = c .decimal .ensures in
-    let most = at-most-20 (c .before .before .before .args .n) (c .decimal .result) (d .1 .0) (omega arith) in
-    omega (arith, most, d .0 .1)
-
+-- They are the decimal digits, and at most 20.
 digits-are : (c : tie.After-decimal) → take (c .decimal .result) (c .decimal .last .1 .0) ≡ decimal (c .before .before .before .args .n)
 digits-are c = c .decimal .ensures .1 .1 ∙ decimal-digits _ _ (c .decimal .ensures .1 .0)
+
+few : (c : tie.After-decimal) → length (take (c .decimal .result) (c .decimal .last .1 .0)) ≤ 20
+few c = rw (digits-are c) (decimal-short (c .before .before .before .args .n) (omega arith))
 
 -- The digits end inside the slice, which keeps its length.
 inside : (c : tie.After-copy) → c .copy .result < length (c .copy .last .1 .0)
