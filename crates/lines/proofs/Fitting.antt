@@ -103,7 +103,7 @@ one room l fits = rw (le-leb (length l) room fits)
 none : (room : ℕ) (l : List ℕ) → room < length l → fitting room (l ∷ []) ≡ []
 none room l full = rw (lt-leb (length l) room full)
 
-pub line-fits : {l out : List ℕ} {used used′ : ℕ} {out′ : List ℕ} → length l ≤ length out - used → Puts out used l used′ out′
+pub line-fits : {l out : List ℕ} {used used′ : ℕ} {out′ : List ℕ} → length l ≤ length out - used → Placed out used l used′ out′
     → AddsLine l out used used′ out′
 line-fits {l} {out} {used} fits p = record { bytes = rw (one (length out - used) l fits, append-nil) p }
 

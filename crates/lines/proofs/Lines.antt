@@ -30,8 +30,8 @@ pub line-some : (a b c : ℕ) → 1 ≤ length (line (a ∷ b ∷ c ∷ []))
 line-some a b c = omega (arith, length-append (decimal a) (32 ∷ line (b ∷ c ∷ [])))
 
 pub puts-3 : {out : List ℕ} {at : ℕ} (a b c : ℕ) {r₁ r₂ r₃ : ℕ} {out₁ out₂ out₃ : List ℕ} → at + 63 ≤ length out
-    → Puts out at (ended a 32) r₁ out₁ → r₁ ≤ at + 21 → Puts out₁ r₁ (ended b 32) r₂ out₂ → r₂ ≤ r₁ + 21
-    → Puts out₂ r₂ (ended c 10) r₃ out₃ → r₃ ≤ r₂ + 21 → Puts out at (line (a ∷ b ∷ c ∷ [])) r₃ out₃
+    → Placed out at (ended a 32) r₁ out₁ → r₁ ≤ at + 21 → Placed out₁ r₁ (ended b 32) r₂ out₂ → r₂ ≤ r₁ + 21
+    → Placed out₂ r₂ (ended c 10) r₃ out₃ → r₃ ≤ r₂ + 21 → Placed out at (line (a ∷ b ∷ c ∷ [])) r₃ out₃
 puts-3 {out} {at} a b c room p₁ h₁ p₂ h₂ p₃ h₃ =
     let size₂ = length-append (ended a 32) (ended b 32) in
     let size₃ = length-append (ended a 32 ++ ended b 32) (ended c 10) in

@@ -14,7 +14,7 @@ pub record Adds (lines : List (List ℕ)) (position : ℕ) (out : List ℕ) (use
 
 -- The same of one line.
 pub record AddsLine (l out : List ℕ) (used used′ : ℕ) (out′ : List ℕ) : Type 0 where
-  pub bytes : Puts out used (joined (fitting (length out - used) (l ∷ []))) used′ out′
+  pub bytes : Placed out used (joined (fitting (length out - used) (l ∷ []))) used′ out′
 
 -- The lines of the next 256 positions, or as many as there are.
 abbrev pub blockLines : ℕ → ℕ → List (List ℕ)

@@ -22,7 +22,7 @@ pub(crate) fn pair_line(position: u64, f: u32, g: u32, out: &mut [u8; 64]) -> us
 // The same at a position of any slice.
 pub(crate) fn put_pair(position: u64, f: u32, g: u32, out: &mut [u8], at: usize) -> usize
     requires { ⌜ at + 63 ≤ length (now out) ⌝ }
-    ensures { λ r. ⌜ Puts (now (out .entry)) at (line (position ∷ f ∷ g ∷ [])) r (now (out .exit)) ⌝ }
+    ensures { λ r. ⌜ Placed (now (out .entry)) at (line (position ∷ f ∷ g ∷ [])) r (now (out .exit)) ⌝ }
     ensures { λ r. ⌜ r ≤ at + 63 ⌝ }
 {
     let next = field(position, b' ', out, at);
