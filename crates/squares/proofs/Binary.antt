@@ -4,6 +4,7 @@ use mathlib.Core.Path.{_≡_, refl, sym, ap, ap₂, _∙_}
 use Prim.Native.Nat.{ℕ, zero, suc, _+_, _-_, _*_, _/_, _%_, _^_, _<_, min}
 use native.Mathlib.Nat
 use native.Mathlib.Nat.{le-refl, mod-lt, div-add-mod'}
+use native.Mathlib.Decide.{decLt, ℕ-discrete}
 use native.Mathlib.Omega.{arith}
 use lib.Arith.{digits-div, digits-mod}
 use lib.Bits.{bitAnd, bitXor, and-step, xor-self}
@@ -15,7 +16,7 @@ use Rattle.poly.proofs.Blocks
 use Rattle.poly.proofs.Binary.{add-xor}
 use Rattle.poly.specs.Code.{digit, add}
 use Rattle.squares.specs.Symbols.{fromDigits, sumBelow, line, outputCell, symbol}
-use Rattle.squares.specs.Lines.{atSite, Moved}
+use Rattle.squares.specs.Lines.{parity, Moved}
 use Rattle.squares.proofs.Codes
 use Rattle.squares.proofs.Places
 use Rattle.squares.proofs.Middle
@@ -52,10 +53,6 @@ number-equal : (k : ℕ) (h h′ : ℕ → ℕ) → ((i : ℕ) → i < k → h i
 number-equal zero h h′ e = refl
 number-equal (suc k) h h′ e = ap₂ (λ (u v : ℕ). u * 2 + v) (number-equal k h h′ (λ i l. e i (omega arith))) (e k (omega arith))
 
--- Output cell i: the parity of the ones of a code that meet ones among the 32 cells from cell i on.
-abbrev pub parity : ℕ → ℕ → ℕ → ℕ
-parity code line i = ones (bitAnd code (line / 2 ^ i % 2 ^ 32)) % 2
-
 -- The site's symbol, from a word whose bit i is cell i.
 module _ (n row : ℕ) {f col : ℕ} (word : ℕ) (n-lt : n < 32) (f-lt : f < 2 ^ suc n) (col-lt : col < 2 ^ n)
     (cells : (i : ℕ) → i < n + n → digit 2 word i ≡ digit 2 (row * 2 ^ n + col) (n + n - suc i)) where
@@ -80,13 +77,44 @@ module _ (n row : ℕ) {f col : ℕ} (word : ℕ) (n-lt : n < 32) (f-lt : f < 2 
   unfolding symbol
   symbol-parities = number-equal n (outputCell 2 n f (line 2 n row col)) (parity f word) output-ones
 
--- The symbol at a site given as one number, from that number in reverse without the places behind its 2n bits.
-pub site-parities : (n site : ℕ) {f reverse : ℕ} → n < 32 → f < 2 ^ suc n → Moved (λ i. 63 - i) site reverse
-    → atSite n f site ≡ fromDigits 2 n (parity f (reverse / 2 ^ (64 - 2 * n)))
-site-parities n site {f} {reverse} n-lt f-lt moved =
-    symbol-parities n (site / 2 ^ n) (reverse / 2 ^ (64 - 2 * n)) n-lt f-lt (mod-lt site (pow-pos n))
-    (λ i l. let same : 63 - ((64 - 2 * n) + i) ≡ n + n - suc i = omega arith in
-    rw (Middle.div-pow 2 reverse (64 - 2 * n) i, div-add-mod' site (2 ^ n), ← same) (moved .bit ((64 - 2 * n) + i) (omega arith)))
+-- The symbol at a site given as one number, row * 2^n + col.
+abbrev pub atSite : ℕ → ℕ → ℕ → ℕ
+atSite n f site = symbol 2 n f (site / 2 ^ n) (site % 2 ^ n)
+
+-- A line has the 2n bits of that number in reverse.
+abbrev LineOf : ℕ → ℕ → ℕ → Type 0
+LineOf n site line = (i : ℕ) → i < n + n → digit 2 line i ≡ digit 2 site (n + n - suc i)
+
+pub site-parities : (n site line : ℕ) {f : ℕ} → n < 32 → f < 2 ^ suc n → LineOf n site line
+    → atSite n f site ≡ fromDigits 2 n (parity f line)
+site-parities n site line n-lt f-lt is =
+    symbol-parities n (site / 2 ^ n) line n-lt f-lt (mod-lt site (pow-pos n)) (λ i l. rw (div-add-mod' site (2 ^ n)) (is i l))
+
+-- The reverse of 64 bits without the places behind the 2n.
+pub reverse-line : (n site : ℕ) {reverse : ℕ} → n < 32 → Moved (λ i. 63 - i) site reverse → LineOf n site (reverse / 2 ^ (64 - 2 * n))
+reverse-line n site {reverse} n-lt moved i l =
+    let same : 63 - ((64 - 2 * n) + i) ≡ n + n - suc i = omega arith in
+    rw (Middle.div-pow 2 reverse (64 - 2 * n) i, ← same) (moved .bit ((64 - 2 * n) + i) (omega arith))
+
+-- The line of a power of two has a single one.
+at-power : (k : ℕ) → digit 2 (2 ^ k) k ≡ 1
+at-power k = ap (λ (v : ℕ). v % 2) (Nat.div-self (pow-pos k))
+
+off-power : (k i : ℕ) → (i ≡ k → ⊥) → digit 2 (2 ^ k) i ≡ 0
+off-power k i other = elim (decLt i k) [
+  | yes l ↦ rw Nat.one-mul at (Places.digit-shl-low 1 k i l)
+  | no l ↦ let j : ℕ = i - k - 1 in
+      let above : i - k ≡ suc j = omega arith in
+      rw Nat.one-mul at (Places.digit-shl-high 1 k i (omega arith)) ∙ ap (digit 2 1) above
+      ∙ ap (λ (v : ℕ). v % 2) (Nat.div-eq-of-lt (omega (arith, Nat.pow-suc 2 j, pow-pos j)))
+]
+
+pub unit-line : (n m : ℕ) → m < n + n → LineOf n (2 ^ m) (2 ^ (n + n - suc m))
+unit-line n m h i l = elim (ℕ-discrete i (n + n - suc m)) [
+  | yes e ↦ let place : n + n - suc i ≡ m = omega arith in
+      ap (digit 2 (2 ^ (n + n - suc m))) e ∙ at-power (n + n - suc m) ∙ sym (ap (digit 2 (2 ^ m)) place ∙ at-power m)
+  | no e ↦ off-power (n + n - suc m) i e ∙ sym (off-power m (n + n - suc i) (λ e′. e (omega arith)))
+]
 
 -- It is linear in that number.
 pub site-add : (n : ℕ) {f : ℕ} (a b : ℕ) → f < 2 ^ suc n → atSite n f (add 2 a b) ≡ bitXor (atSite n f a) (atSite n f b)

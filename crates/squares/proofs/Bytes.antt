@@ -11,8 +11,7 @@ use lib.Pow.{pow-pos}
 use Rattle.squares.specs.Symbols.{symbol}
 use Rattle.squares.specs.Replies.{sheetOf}
 use Rattle.squares.specs.Doubling.{byTurns}
-use Rattle.squares.specs.Lines.{atSite}
-use Rattle.squares.proofs.Binary.{site-next}
+use Rattle.squares.proofs.Binary.{atSite, site-next}
 use Rattle.squares.proofs.Sheets.{four-pow, byte-at}
 
 -- Byte j: the symbol of f at site j / 2 where j is even, that of g where j is odd.

@@ -9,7 +9,8 @@ ghost use mathlib.Core.List.{_++_};
 ghost use lib.ListN.{length, getD, drop};
 ghost use Rattle.squares.specs.Replies.{symbolsReply, siteReply, laidReply, sheetReply, sheetOf, sheetBytes};
 ghost use Rattle.squares.specs.Doubling.{Alternating, Whole, Added};
-ghost use Rattle.squares.specs.Lines.{atSite, Moved, exchanged, Lower};
+ghost use Rattle.squares.specs.Symbols.{fromDigits};
+ghost use Rattle.squares.specs.Lines.{parity, Moved, exchanged, Lower};
 
 // The symbols of f and of g at a site, or why there are none.
 pub enum Symbols {
@@ -34,7 +35,9 @@ pub fn site(n: u32, f: u32, g: u32, row: u32, col: u32) -> Symbols
     if order <= col as u64 {
         return Symbols::Refused(Refusal::SiteRange);
     }
-    let both = symbols_at(n, f, g, row as u64 * order + col as u64);
+    let place = row as u64 * order + col as u64;
+    let line = reversed(place) >> (64 - 2 * n);
+    let both = symbols_of(n, f, g, line);
     Symbols::Both(both.first, both.second)
 }
 
@@ -43,13 +46,13 @@ struct Both {
     second: u32,
 }
 
-// The one place where symbols are made: those of f and g at the site with this number, row * 2^n + col. The line has cell i as bit i, and
-// each output cell is a count of ones modulo 2. The window has cells i to i + 31; a code of degree n keeps those up to cell i + n.
-fn symbols_at(n: u32, f: u32, g: u32, place: u64) -> Both
-    requires { ⌜ (1 ≤ n) × (n < 32) × (f < 2 ^ suc n) × (g < 2 ^ suc n) ⌝ }
-    ensures { λ r. ⌜ (r .first ≡ atSite n f place) × (r .second ≡ atSite n g place) ⌝ }
+// The one place where symbols are made: those of f and g from a line with cell i as bit i. Each output cell is a count of ones modulo 2.
+// The window has cells i to i + 31; a code of degree n keeps those up to cell i + n.
+fn symbols_of(n: u32, f: u32, g: u32, line: u64) -> Both
+    requires { ⌜ n < 32 ⌝ }
+    ensures { λ r. ⌜ (r .first ≡ fromDigits 2 n (parity f line)) × (r .second ≡ fromDigits 2 n (parity g line)) ⌝ }
 {
-    let mut rest = reversed(place) >> (64 - 2 * n);
+    let mut rest = line;
     let mut first: u32 = 0;
     let mut second: u32 = 0;
     let mut i: u32 = 0;
@@ -121,7 +124,8 @@ fn fill(n: u32, f: u32, g: u32, out: &mut [u8])
     out[1] = 0;
     let mut m: u32 = 0;
     while m < 2 * n {
-        let unit = symbols_at(n, f, g, 1u64 << m);
+        // The line of site 2^m has a single one.
+        let unit = symbols_of(n, f, g, 1u64 << (2 * n - 1 - m));
         let pattern = alternating(unit.first as u8, unit.second as u8);
         double(out, 2 << m, &pattern);
         m += 1;

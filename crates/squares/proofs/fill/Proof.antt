@@ -16,8 +16,9 @@ use lib.Seq.{getD-set-same, getD-set-other, getD-append-add, getD-drop, ext-getD
 use Rattle.poly.proofs.Shifts.{one-shl}
 use Rattle.squares.specs.Replies.{sheetOf}
 use Rattle.squares.specs.Doubling.{byTurns, Alternating, Whole, Added}
-use Rattle.squares.specs.Lines.{atSite}
-use Rattle.squares.proofs.Binary.{site-zero}
+use Rattle.squares.specs.Symbols.{fromDigits}
+use Rattle.squares.specs.Lines.{parity}
+use Rattle.squares.proofs.Binary.{atSite, site-zero, site-parities, unit-line}
 use Rattle.squares.proofs.Linear.{symbol-lt}
 use Rattle.squares.proofs.Sheets.{square-is, four-pos, sheetOf-length}
 use Rattle.squares.proofs.Bytes.{byteOf, byte-next, byte-is}
@@ -101,11 +102,20 @@ finished n f g lent {out} room s =
           ∙ getD-append-add (sheetOf n f g) (drop (2 * 4 ^ n) lent) k 0 ∙ getD-drop (2 * 4 ^ n) lent k 0)
     ]
 
--- a symbol is a byte
-symbol-byte : (n f place : ℕ) {x : ℕ} → n < 7 → f < 2 ^ suc n → x ≡ atSite n f place → x < 2 ^ 8
-symbol-byte n f place h f-lt e =
-    rw e
-    (lt-of-lt-of-le (symbol-lt 2 (le-refl 2) n f-lt (place / 2 ^ n) (mod-lt place (pow-pos n))) (pow-mono {i = n} {j = 8} (omega arith)))
+-- the symbol at site 2^m, from its line; it is a byte
+unit-symbol : (n m : ℕ) {f x : ℕ} → n < 7 → m < 2 * n → f < 2 ^ suc n → x ≡ fromDigits 2 n (parity f (1 * 2 ^ (2 * n - 1 - m) % 2 ^ 64))
+    → (x ≡ atSite n f (2 ^ m)) × (x < 2 ^ 8)
+unit-symbol n m {f} {x} h l f-lt e =
+    let place : 2 * n - 1 - m ≡ n + n - suc m = omega arith in
+    let line : 1 * 2 ^ (2 * n - 1 - m) % 2 ^ 64 ≡ 2 ^ (n + n - suc m) =
+    one-shl 64 (2 * n - 1 - m) (omega arith) ∙ ap (λ (v : ℕ). 2 ^ v) place in
+    let is : x ≡ atSite n f (2 ^ m) =
+    rw line at e ∙ sym (site-parities n (2 ^ m) (2 ^ (n + n - suc m)) (omega arith) f-lt (unit-line n m (omega arith))) in (
+      is,
+      rw is
+          (lt-of-lt-of-le (symbol-lt 2 (le-refl 2) n f-lt (2 ^ m / 2 ^ n) (mod-lt (2 ^ m) (pow-pos n)))
+          (pow-mono {i = n} {j = 8} (omega arith))),
+    )
 
 -- the size that is doubled
 size-is : (m : ℕ) → m < 12 → 2 * 2 ^ m % 2 ^ 64 ≡ 2 * 2 ^ m
@@ -143,24 +153,40 @@ loop-holds c = let s = c .before in (start (s .args .n) (s .pre .2) (s .pre .3) 
 mul-loop : tie.Need-mul-loop Inv-loop μ-loop
 mul-loop c = record { fits = omega (arith, c .before .before .pre .1) }
 
-shl-symbols-at : tie.Need-shl-symbols-at Inv-loop μ-loop
-shl-symbols-at c = omega (arith, few c)
+mul-symbols-of : tie.Need-mul-symbols-of Inv-loop μ-loop
+mul-symbols-of c = record { fits = omega (arith, c .before .before .before .pre .1) }
 
-symbols-at-requires : tie.Need-symbols-at-requires Inv-loop μ-loop
-symbols-at-requires c κs =
-    let s = c .before .before .before in (s .pre .0, omega (arith, s .pre .1), s .pre .2, s .pre .3)
+sub-symbols-of : tie.Need-sub-symbols-of Inv-loop μ-loop
+sub-symbols-of c = omega (arith, c .loop-test .taken)
+
+sub-symbols-of-2 : tie.Need-sub-symbols-of-2 Inv-loop μ-loop
+sub-symbols-of-2 c = omega (arith, c .loop-test .taken)
+
+shl-symbols-of : tie.Need-shl-symbols-of Inv-loop μ-loop
+shl-symbols-of c = omega (arith, c .before .before .before .pre .1)
+
+symbols-of-requires : tie.Need-symbols-of-requires Inv-loop μ-loop
+symbols-of-requires c κs = omega (arith, c .before .before .before .pre .1)
+
+-- both symbols at the site
+units : (c : tie.After-symbols-of Inv-loop μ-loop)
+    → let s = c .before .before .before .before in
+    let m : ℕ = c .before .before .loop .m in
+    ((c .symbols-of .result .first ≡ atSite (s .args .n) (s .args .f) (2 ^ m)) × (c .symbols-of .result .first < 2 ^ 8))
+    × ((c .symbols-of .result .second ≡ atSite (s .args .n) (s .args .g) (2 ^ m)) × (c .symbols-of .result .second < 2 ^ 8))
+units c =
+    let s = c .before .before .before .before in
+    let m : ℕ = c .before .before .loop .m in
+    let (first, second) = c .symbols-of .ensures in (
+      unit-symbol (s .args .n) m (s .pre .1) (c .before .loop-test .taken) (s .pre .2) first,
+      unit-symbol (s .args .n) m (s .pre .1) (c .before .loop-test .taken) (s .pre .3) second,
+    )
 
 cast-alternating : tie.Need-cast-alternating Inv-loop μ-loop
-cast-alternating c =
-    let s = c .before .before .before .before .before in
-    let place = 1 * 2 ^ c .before .before .before .loop .m % 2 ^ 64 in
-    record { fits = symbol-byte (s .args .n) (s .args .f) place (s .pre .1) (s .pre .2) (c .before .symbols-at .ensures .0) }
+cast-alternating c = record { fits = units (c .before) .0 .1 }
 
 cast-alternating-2 : tie.Need-cast-alternating-2 Inv-loop μ-loop
-cast-alternating-2 c =
-    let s = c .before .before .before .before .before .before in
-    let place = 1 * 2 ^ c .before .before .before .before .loop .m % 2 ^ 64 in
-    record { fits = symbol-byte (s .args .n) (s .args .g) place (s .pre .1) (s .pre .3) (c .before .before .symbols-at .ensures .1) }
+cast-alternating-2 c = record { fits = units (c .before .before) .1 .1 }
 
 cast-double : tie.Need-cast-double Inv-loop μ-loop
 cast-double c = record { fits = omega (arith, few (c .before .before .before .before .before)) }
@@ -194,8 +220,8 @@ loop-again c =
     let s = this .before .before .before in
     let doubled = rw (size-is (loop .m) (few this)) at (c .before .before .double .ensures) in
     let made = c .before .before .before .before .before in
-    let unit = rw (one-shl 64 (loop .m) (omega (arith, few this))) at (made .before .before .before .symbols-at .ensures) in
-    let pattern = rw (unit .0, unit .1) at (made .alternating .ensures) in
+    let unit = units (made .before .before .before) in
+    let pattern = rw (unit .0 .0, unit .1 .0) at (made .alternating .ensures) in
     (rw add-one (turn (s .args .n) (s .pre .2) (s .pre .3) (loop .inv .0) pattern doubled), omega (arith, this .loop-test .taken))
 
 same-length : tie.Need-same-length Inv-loop μ-loop
@@ -210,6 +236,6 @@ returns c =
 pub fill-spec : {M : Type 1} → statement M
 fill-spec =
     tie.close
-    (tie.spec Inv-loop μ-loop slice-write-out slice-write-out-2 loop-holds mul-loop (λ c. search needs) shl-symbols-at symbols-at-requires
-    cast-alternating cast-alternating-2 (λ c κs. search needs) cast-double shl-double double-requires add-m loop-less loop-again same-length
-    returns)
+    (tie.spec Inv-loop μ-loop slice-write-out slice-write-out-2 loop-holds mul-loop mul-symbols-of sub-symbols-of sub-symbols-of-2
+    (λ c. search needs) shl-symbols-of symbols-of-requires cast-alternating cast-alternating-2 (λ c κs. search needs) cast-double shl-double
+    double-requires add-m loop-less loop-again same-length returns)

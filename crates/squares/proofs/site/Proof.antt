@@ -2,7 +2,7 @@
 use mathlib.Core.Path.{_≡_, sym, ap, _∙_}
 use mathlib.Core.Bool.{false, or-true}
 use mathlib.Core.List.{[], _∷_, _++_}
-use Prim.Native.Nat.{ℕ, _+_, _*_, _^_, _≤_, _<_}
+use Prim.Native.Nat.{ℕ, _+_, _-_, _*_, _/_, _^_, _≤_, _<_}
 use native.Mathlib.Nat
 use native.Mathlib.Omega.{arith}
 use borrow.Author.Needs.{needs}
@@ -17,7 +17,9 @@ use Rattle.poly.specs.Causes.{codeCauses}
 use Rattle.poly.specs.Replies.{countReply, checkedReply}
 use Rattle.poly.proofs.Ranges.{within, Passed, passed-codes, count-served, count-refused}
 use Rattle.squares.specs.Symbols.{symbol}
-use Rattle.squares.specs.Lines.{atSite}
+use Rattle.squares.specs.Symbols.{fromDigits}
+use Rattle.squares.specs.Lines.{parity, Moved}
+use Rattle.squares.proofs.Binary.{site-parities, reverse-line}
 use Rattle.squares.specs.Replies.{siteReply, offSite}
 use Rattle.squares.proofs.site.Statement.{statement}
 use Rattle.squares.proofs.site.Tie as tie
@@ -94,13 +96,19 @@ module _ (c : tie.After-enum-told2) where
     place-lt =
         Nat.lt-of-lt-of-le (rw (← pow-add 2 n n) at (digits-lt r-lt c-lt)) (pow-mono {i = n + n} {j = 62} (omega (arith, range)))
 
-    -- the symbols at the site's number are those at its row and column
-    served-here : {first second order : ℕ} → order ≡ 2 ^ n
-        → (first ≡ atSite n f (row * order + col)) × (second ≡ atSite n g (row * order + col))
+    -- the symbols from the line of the site's number are those at its row and column
+    served-here : {first second order reverse : ℕ} → order ≡ 2 ^ n → Moved (λ i. 63 - i) (row * order + col) reverse
+        → let line : ℕ = reverse / 2 ^ (64 - 2 * n) in
+        (first ≡ fromDigits 2 n (parity f line)) × (second ≡ fromDigits 2 n (parity g line))
         → served (first ∷ second ∷ []) ≡ siteReply n f g row col
-    served-here is at =
-        let (one, two) = rw (is, digits-div row c-lt, digits-mod row c-lt) at at in
-        rw (one, two) (sym (reply ∙ rw (lt-leb (2 ^ n) row r-lt, lt-leb (2 ^ n) col c-lt)))
+    served-here {first} {second} {order} {reverse} is moved (one, two) =
+        let small : n < 32 = omega (arith, range) in
+        let line : ℕ = reverse / 2 ^ (64 - 2 * n) in
+        let place : ℕ = row * 2 ^ n + col in
+        let cells = reverse-line n place small (rw is at moved) in
+        let of-f = rw (digits-div row c-lt, digits-mod row c-lt) at (site-parities n place line small (codes .degree-f .high) cells) in
+        let of-g = rw (digits-div row c-lt, digits-mod row c-lt) at (site-parities n place line small (codes .degree-g .high) cells) in
+        rw (one, two, ← of-f, ← of-g) (sym (reply ∙ rw (lt-leb (2 ^ n) row r-lt, lt-leb (2 ^ n) col c-lt)))
 
 returns-3 : tie.Need-returns-3
 returns-3 c =
@@ -120,28 +128,37 @@ row-lt c = rw (order (c .before .before)) at (c .before .if1 .left)
 col-lt : (c : tie.Else2) → col (c .before .before) < 2 ^ n (c .before .before)
 col-lt c = rw (order (c .before .before)) at (c .if2 .left)
 
-mul-symbols-at : tie.Need-mul-symbols-at
-mul-symbols-at c =
+mul-place : tie.Need-mul-place
+mul-place c =
     let t = c .before .before in
     rw (order t) (record { fits = omega (arith, place-lt t (row-lt c) (col-lt c)) })
 
-add-symbols-at : tie.Need-add-symbols-at
-add-symbols-at c =
+add-place : tie.Need-add-place
+add-place c =
     let t = c .before .before in
     rw (order t) (record { fits = omega (arith, place-lt t (row-lt c) (col-lt c)) })
 
-symbols-at-requires : tie.Need-symbols-at-requires
-symbols-at-requires c κs =
-    let t = c .before .before in
-    (range t .0, omega (arith, range t .1), codes t .degree-f .high, codes t .degree-g .high)
+mul-line : tie.Need-mul-line
+mul-line c = record { fits = omega (arith, range (c .before .before .before)) }
+
+sub-line : tie.Need-sub-line
+sub-line c = omega (arith, range (c .before .before .before))
+
+shr-line : tie.Need-shr-line
+shr-line c = omega (arith, range (c .before .before .before))
+
+symbols-of-requires : tie.Need-symbols-of-requires
+symbols-of-requires c κs = omega (arith, range (c .before .before .before))
 
 returns-5 : tie.Need-returns-5
 returns-5 c =
-    let t = c .before .before .before in
-    served-here t (row-lt (c .before)) (col-lt (c .before)) (order t) (c .symbols-at .ensures)
+    let left = c .before .before in
+    let t = left .before .before in
+    served-here t (row-lt left) (col-lt left) (order t) (c .before .reversed .ensures) (c .symbols-of .ensures)
 
 pub site-spec : {M : Type 1} → statement M
 site-spec =
     tie.close
     (tie.spec (λ c κs. search needs) (λ c. search needs) (λ c. search needs) returns (λ c κs. search needs) (λ c. search needs) returns-2
-    (λ c. search needs) returns-3 returns-4 mul-symbols-at add-symbols-at symbols-at-requires returns-5)
+    (λ c. search needs) returns-3 returns-4 mul-place add-place (λ c κs. search needs) mul-line sub-line (λ c. search needs) shr-line
+    symbols-of-requires returns-5)

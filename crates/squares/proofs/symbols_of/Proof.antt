@@ -1,4 +1,4 @@
--- `symbols_at` meets its contract. The invariant: the first i output cells of each symbol are read.
+-- `symbols_of` meets its contract. The invariant: the first i output cells of each symbol are read.
 use mathlib.Core.Path.{_≡_, refl, sym, ap, _∙_}
 use Prim.Native.Nat.{ℕ, _+_, _-_, _*_, _/_, _%_, _^_, _≤_, _<_}
 use native.Mathlib.Nat.{le-refl, mod-lt, lt-of-lt-of-le, div-one}
@@ -9,10 +9,10 @@ use lib.Bits.{bitAnd}
 use lib.Count.{ones}
 use lib.Pow.{pow-mono, shr-shr}
 use Rattle.squares.specs.Symbols.{fromDigits}
-use Rattle.squares.proofs.Binary.{parity, site-parities}
+use Rattle.squares.specs.Lines.{parity}
 use Rattle.squares.proofs.Middle.{number-lt}
-use Rattle.squares.proofs.symbols_at.Statement.{statement}
-use Rattle.squares.proofs.symbols_at.Tie as tie
+use Rattle.squares.proofs.symbols_of.Statement.{statement}
+use Rattle.squares.proofs.symbols_of.Tie as tie
 
 -- the output cells of one code that are read
 record Read (code line i cells : ℕ) : Type 0 where
@@ -30,29 +30,20 @@ few {code} {line} {i} h r =
     (pow-mono {i = i} {j = 30} (omega arith)))
 
 abbrev Inv-loop : tie.InvT-loop
-Inv-loop n f g place rest₀ first₀ second₀ i₀ rest first second i =
-    (i ≤ n) × (rest ≡ rest₀ / 2 ^ i) × Read f rest₀ i first × Read g rest₀ i second
+Inv-loop n f g line rest₀ first₀ second₀ i₀ rest first second i =
+    (i ≤ n) × (rest ≡ line / 2 ^ i) × Read f line i first × Read g line i second
 
 abbrev μ-loop : tie.MeasureT-loop
-μ-loop n f g place rest₀ first₀ second₀ i₀ rest first second i = n - i
-
-mul-rest : tie.Need-mul-rest Inv-loop μ-loop
-mul-rest c = record { fits = omega (arith, c .before .pre .1) }
-
-sub-rest : tie.Need-sub-rest Inv-loop μ-loop
-sub-rest c = omega (arith, c .before .pre .1)
-
-shr-rest : tie.Need-shr-rest Inv-loop μ-loop
-shr-rest c = omega (arith, c .before .pre .0, c .before .pre .1)
+μ-loop n f g line rest₀ first₀ second₀ i₀ rest first second i = n - i
 
 loop-holds : tie.Need-loop-holds Inv-loop μ-loop
-loop-holds c = (omega arith, sym (div-one _), record { are = refl }, record { are = refl })
+loop-holds c = (omega arith, sym (div-one (c .args .line)), record { are = refl }, record { are = refl })
 
 few-first : (c : tie.In-loop Inv-loop μ-loop) → c .before .loop .first < 2 ^ 30
-few-first c = few (omega (arith, c .loop-test .taken, c .before .before .before .pre .1)) (c .before .loop .inv .2)
+few-first c = few (omega (arith, c .loop-test .taken, c .before .before .pre)) (c .before .loop .inv .2)
 
 few-second : (c : tie.In-loop Inv-loop μ-loop) → c .before .loop .second < 2 ^ 30
-few-second c = few (omega (arith, c .loop-test .taken, c .before .before .before .pre .1)) (c .before .loop .inv .3)
+few-second c = few (omega (arith, c .loop-test .taken, c .before .before .pre)) (c .before .loop .inv .3)
 
 mul-first : tie.Need-mul-first Inv-loop μ-loop
 mul-first c = record { fits = omega (arith, few-first c) }
@@ -74,17 +65,11 @@ loop-again c =
 
 returns : tie.Need-returns Inv-loop μ-loop
 returns c =
-    let s = c .before .before .before in
-    let (positive, small, f-lt, g-lt) = s .pre in
-    let all : c .before .loop .i ≡ s .args .n = omega (arith, c .before .loop .inv .0) in
-    let (most, shifted, one, two) = rw all at (c .before .loop .inv) in
-    let moved = c .before .before .reversed .ensures in (
-      one .are ∙ sym (site-parities (s .args .n) (s .args .place) small f-lt moved),
-      two .are ∙ sym (site-parities (s .args .n) (s .args .place) small g-lt moved),
-    )
+    let all : c .before .loop .i ≡ c .before .before .args .n = omega (arith, c .before .loop .inv .0) in
+    let (most, shifted, one, two) = rw all at (c .before .loop .inv) in (one .are, two .are)
 
-pub symbols-at-spec : {M : Type 1} → statement M
-symbols-at-spec =
+pub symbols-of-spec : {M : Type 1} → statement M
+symbols-of-spec =
     tie.close
-    (tie.spec Inv-loop μ-loop (λ c κs. search needs) mul-rest sub-rest (λ c. search needs) shr-rest loop-holds (λ c. search needs) mul-first
-    add-first mul-second add-second (λ c. omega arith) (λ c. omega arith) loop-again returns)
+    (tie.spec Inv-loop μ-loop loop-holds (λ c. search needs) mul-first add-first mul-second add-second (λ c. omega arith) (λ c. omega arith)
+    loop-again returns)
