@@ -34,25 +34,25 @@ lengths =
     ∷ []
 
 -- Pairs.
-abbrev pub entry : ℕ → ℕ → ℕ → ℕ → Case
-entry n position f g = pairAtReply n position is served (f ∷ g ∷ [])
+abbrev pub pairIs : ℕ → ℕ → ℕ → ℕ → Case
+pairIs n position f g = pairAtReply n position is served (f ∷ g ∷ [])
 
 abbrev pub degree3 : List Case
 degree3 =
-    entry 3 0 11 9
-    ∷ entry 3 1 9 11
-    ∷ entry 3 2 15 13
-    ∷ entry 3 3 13 15
-    ∷ entry 3 4 13 9
-    ∷ entry 3 5 9 13
-    ∷ entry 3 6 11 13
-    ∷ entry 3 7 13 11
-    ∷ entry 3 8 15 11
-    ∷ entry 3 9 11 15
+    pairIs 3 0 11 9
+    ∷ pairIs 3 1 9 11
+    ∷ pairIs 3 2 15 13
+    ∷ pairIs 3 3 13 15
+    ∷ pairIs 3 4 13 9
+    ∷ pairIs 3 5 9 13
+    ∷ pairIs 3 6 11 13
+    ∷ pairIs 3 7 13 11
+    ∷ pairIs 3 8 15 11
+    ∷ pairIs 3 9 11 15
     ∷ []
 
 abbrev pub degree4 : List Case
-degree4 = entry 4 0 19 17 ∷ entry 4 41 19 25 ∷ pairAtReply 4 42 is refused 2 ∷ []
+degree4 = pairIs 4 0 19 17 ∷ pairIs 4 41 19 25 ∷ pairAtReply 4 42 is refused 2 ∷ []
 
 -- Chains: the count and the divisor, and what stands in 32 lent numbers, all 0 before.
 abbrev pub zeros : ℕ → List ℕ

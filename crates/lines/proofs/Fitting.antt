@@ -12,7 +12,7 @@ use lib.Dec.{leb}
 use lib.ListN.{length, take, drop, length-append, take-append-drop}
 use lib.Seq.{drop-drop}
 use Rattle.lines.specs.Text.{put, Placed}
-use Rattle.lines.specs.Filling.{joined, fitting}
+use Rattle.lines.specs.Filling.{joined, fittingLines}
 use Rattle.lines.specs.Inner.{Adds, AddsLine}
 use Rattle.lines.proofs.Putting.{length-put, puts-more}
 
@@ -20,49 +20,50 @@ pub joined-append : (a b : List (List ℕ)) → joined (a ++ b) ≡ joined a ++ 
 joined-append [] b = refl
 joined-append (l ∷ a) b = rw (joined-append a b, append-assoc)
 
-pub fitting-le : (room : ℕ) (lines : List (List ℕ)) → length (joined (fitting room lines)) ≤ room
+pub fitting-le : (room : ℕ) (lines : List (List ℕ)) → length (joined (fittingLines room lines)) ≤ room
 fitting-le room [] = omega arith
 fitting-le room (l ∷ lines) = go (leb (length l) room) refl (fitting-le (room - length l) lines)
   where
-    go : (t : Bool) → leb (length l) room ≡ t → length (joined (fitting (room - length l) lines)) ≤ room - length l
-        → length (joined (cond t (l ∷ fitting (room - length l) lines) [])) ≤ room
-    go true e ih = omega (arith, leb-true (length l) room e, length-append l (joined (fitting (room - length l) lines)))
+    go : (t : Bool) → leb (length l) room ≡ t → length (joined (fittingLines (room - length l) lines)) ≤ room - length l
+        → length (joined (cond t (l ∷ fittingLines (room - length l) lines) [])) ≤ room
+    go true e ih = omega (arith, leb-true (length l) room e, length-append l (joined (fittingLines (room - length l) lines)))
     go false e ih = omega arith
 
 -- The front of the list, and the rest behind it.
-pub fitting-front : (room : ℕ) (lines : List (List ℕ)) → fitting room lines ++ drop (length (fitting room lines)) lines ≡ lines
+pub fitting-front : (room : ℕ) (lines : List (List ℕ)) → fittingLines room lines ++ drop (length (fittingLines room lines)) lines ≡ lines
 fitting-front room [] = refl
 fitting-front room (l ∷ lines) = go (leb (length l) room) (fitting-front (room - length l) lines)
   where
-    go : (t : Bool) → fitting (room - length l) lines ++ drop (length (fitting (room - length l) lines)) lines ≡ lines
-        → let some : List (List ℕ) = cond t (l ∷ fitting (room - length l) lines) [] in some ++ drop (length some) (l ∷ lines) ≡ l ∷ lines
+    go : (t : Bool) → fittingLines (room - length l) lines ++ drop (length (fittingLines (room - length l) lines)) lines ≡ lines
+        → let some : List (List ℕ) = cond t (l ∷ fittingLines (room - length l) lines) [] in
+        some ++ drop (length some) (l ∷ lines) ≡ l ∷ lines
     go true ih = ap (_∷_ l) ih
     go false ih = refl
 
-pub fitting-few : (room : ℕ) (lines : List (List ℕ)) → length (fitting room lines) ≤ length lines
+pub fitting-few : (room : ℕ) (lines : List (List ℕ)) → length (fittingLines room lines) ≤ length lines
 fitting-few room lines =
     omega (
       arith,
       ap length (fitting-front room lines),
-      length-append (fitting room lines) (drop (length (fitting room lines)) lines),
+      length-append (fittingLines room lines) (drop (length (fittingLines room lines)) lines),
     )
 
 -- Of the first m lines, and of the lines behind what was put of them.
 fitting-more : (m room : ℕ) (lines : List (List ℕ))
-    → let front : List (List ℕ) = fitting room (take m lines) in
-    fitting room lines ≡ front ++ fitting (room - length (joined front)) (drop (length front) lines)
+    → let front : List (List ℕ) = fittingLines room (take m lines) in
+    fittingLines room lines ≡ front ++ fittingLines (room - length (joined front)) (drop (length front) lines)
 fitting-more zero room lines = rw sub-zero
 fitting-more (suc m) room [] = refl
 fitting-more (suc m) room (l ∷ lines) = go (leb (length l) room) refl (fitting-more m (room - length l) lines)
   where
     front : List (List ℕ)
-    front = fitting (room - length l) (take m lines)
+    front = fittingLines (room - length l) (take m lines)
 
     go : (t : Bool) → leb (length l) room ≡ t
-        → fitting (room - length l) lines ≡ front ++ fitting (room - length l - length (joined front)) (drop (length front) lines)
+        → fittingLines (room - length l) lines ≡ front ++ fittingLines (room - length l - length (joined front)) (drop (length front) lines)
         → let some : List (List ℕ) = cond t (l ∷ front) [] in
-        cond t (l ∷ fitting (room - length l) lines) []
-        ≡ some ++ fitting (room - length (joined some)) (drop (length some) (l ∷ lines))
+        cond t (l ∷ fittingLines (room - length l) lines) []
+        ≡ some ++ fittingLines (room - length (joined some)) (drop (length some) (l ∷ lines))
     go true e ih =
         let all = length-append l (joined front) in
         let less : room - length l - length (joined front) ≡ room - length (l ++ joined front) = omega arith in
@@ -70,17 +71,17 @@ fitting-more (suc m) room (l ∷ lines) = go (leb (length l) room) refl (fitting
     go false e ih = rw (sub-zero, e)
 
 -- Where fewer than m are put of the first m lines, no more are put of all.
-fitting-fewer : (m room : ℕ) (lines : List (List ℕ)) → length (fitting room (take m lines)) < m
-    → fitting room lines ≡ fitting room (take m lines)
+fitting-fewer : (m room : ℕ) (lines : List (List ℕ)) → length (fittingLines room (take m lines)) < m
+    → fittingLines room lines ≡ fittingLines room (take m lines)
 fitting-fewer zero room lines few = absurd (omega arith)
 fitting-fewer (suc m) room [] few = refl
 fitting-fewer (suc m) room (l ∷ lines) few = go (leb (length l) room) few (fitting-fewer m (room - length l) lines)
   where
     front : List (List ℕ)
-    front = fitting (room - length l) (take m lines)
+    front = fittingLines (room - length l) (take m lines)
 
-    go : (t : Bool) → length (cond t (l ∷ front) []) < suc m → (length front < m → fitting (room - length l) lines ≡ front)
-        → cond t (l ∷ fitting (room - length l) lines) [] ≡ cond t (l ∷ front) []
+    go : (t : Bool) → length (cond t (l ∷ front) []) < suc m → (length front < m → fittingLines (room - length l) lines ≡ front)
+        → cond t (l ∷ fittingLines (room - length l) lines) [] ≡ cond t (l ∷ front) []
     go true few ih = ap (_∷_ l) (ih (omega arith))
     go false few ih = refl
 
@@ -89,7 +90,7 @@ unfolding put
 put-none out at = rw (append-nil, add-zero, take-append-drop)
 
 -- Nothing is put where no line fits.
-pub adds-none : {lines : List (List ℕ)} {position : ℕ} {out : List ℕ} {used : ℕ} → fitting (length out - used) lines ≡ []
+pub adds-none : {lines : List (List ℕ)} {position : ℕ} {out : List ℕ} {used : ℕ} → fittingLines (length out - used) lines ≡ []
     → Adds lines position out used used position out
 adds-none {lines} {position} {out} {used} none = record {
   bytes = record { next = rw none (sym (add-zero used)); after = rw none (sym (put-none out used)) };
@@ -97,10 +98,10 @@ adds-none {lines} {position} {out} {used} none = record {
 }
 
 -- One line is put where it fits, and the bytes stay as they are where it does not.
-one : (room : ℕ) (l : List ℕ) → length l ≤ room → fitting room (l ∷ []) ≡ l ∷ []
+one : (room : ℕ) (l : List ℕ) → length l ≤ room → fittingLines room (l ∷ []) ≡ l ∷ []
 one room l fits = rw (le-leb (length l) room fits)
 
-none : (room : ℕ) (l : List ℕ) → room < length l → fitting room (l ∷ []) ≡ []
+none : (room : ℕ) (l : List ℕ) → room < length l → fittingLines room (l ∷ []) ≡ []
 none room l full = rw (lt-leb (length l) room full)
 
 pub line-fits : {l out : List ℕ} {used used′ : ℕ} {out′ : List ℕ} → length l ≤ length out - used → Placed out used l used′ out′
@@ -130,7 +131,7 @@ module _ {l out : List ℕ} {used used′ : ℕ} {out′ : List ℕ} (p : AddsLi
 module _ (m : ℕ) (lines : List (List ℕ)) {position : ℕ} {out : List ℕ} {used used₁ next : ℕ} {out₁ : List ℕ}
     (room : used ≤ length out) (a : Adds (take m lines) position out used used₁ next out₁) where
   abbrev front : List (List ℕ)
-  front = fitting (length out - used) (take m lines)
+  front = fittingLines (length out - used) (take m lines)
 
   fits : used + length (joined front) ≤ length out
   fits = omega (arith, fitting-le (length out - used) (take m lines))
@@ -149,22 +150,22 @@ module _ (m : ℕ) (lines : List (List ℕ)) {position : ℕ} {out : List ℕ} {
   }
     where
       behind : List (List ℕ)
-      behind = fitting (length out₁ - used₁) (drop k lines)
+      behind = fittingLines (length out₁ - used₁) (drop k lines)
 
       many : k ≡ length front
       many = omega (arith, a .stop)
 
-      whole : fitting (length out - used) lines ≡ front ++ behind
+      whole : fittingLines (length out - used) lines ≡ front ++ behind
       whole =
           let left : length out₁ - used₁ ≡ length out - used - length (joined front) = omega (arith, same, a .bytes .next) in
           rw (left, many) (fitting-more m (length out - used) lines)
 
-      all : used + length (joined (fitting (length out - used) lines)) ≤ length out
+      all : used + length (joined (fittingLines (length out - used) lines)) ≤ length out
       all = omega (arith, fitting-le (length out - used) lines)
 
   adds-last : next < position + m → Adds lines position out used used₁ next out₁
   adds-last few =
-      let all : fitting (length out - used) lines ≡ front = fitting-fewer m (length out - used) lines (omega (arith, a .stop)) in
+      let all : fittingLines (length out - used) lines ≡ front = fitting-fewer m (length out - used) lines (omega (arith, a .stop)) in
       record { bytes = rw all (a .bytes); stop = rw all (a .stop) }
 
 -- `done` lines were put, and what is put of the others completes them.

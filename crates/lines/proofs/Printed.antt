@@ -19,7 +19,7 @@ use Rattle.pairs.proofs.Pairs.{length-pairs}
 use Rattle.pairs.proofs.Standing.{entries-coprime, pair-answers}
 use Rattle.lines.specs.Text.{decimal, line}
 use Rattle.lines.specs.Output.{firstLine, entryLine, printed}
-use Rattle.lines.specs.Filling.{joined, fitting, entryLines, filled, Fills}
+use Rattle.lines.specs.Filling.{joined, fittingLines, entryLines, filled, Fills}
 use Rattle.lines.specs.Claims.{pieces, PrintClaim}
 use Rattle.lines.proofs.Decimals.{decimal-short}
 use Rattle.lines.proofs.Lines.{line-some}
@@ -73,7 +73,7 @@ module _ (n : ℕ) (on : outside 1 31 n ≡ false) where
         let next : drop position (entryLines n) ≡ entryLine n position ∷ drop (suc position) (entryLines n) =
         drop-cons (entryLines n) position [] (rw (entries .long) h)
         ∙ ap (λ l. l ∷ drop (suc position) (entryLines n)) (entries .stands position h) in
-        let others : List (List ℕ) = fitting (room - length (entryLine n position)) (drop (suc position) (entryLines n)) in
+        let others : List (List ℕ) = fittingLines (room - length (entryLine n position)) (drop (suc position) (entryLines n)) in
         rw (next, le-leb (length (entryLine n position)) room (omega arith))
         (omega (arith, length-append (entryLine n position) (joined others)))
 

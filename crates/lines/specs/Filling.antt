@@ -14,9 +14,9 @@ abbrev pub joined : List (List ℕ) → List ℕ
 joined lines = each lines (λ l. l)
 
 -- The lines, in order, that fit into `room` bytes one behind the other, up to the first that does not.
-abbrev pub fitting : ℕ → List (List ℕ) → List (List ℕ)
-fitting room [] = []
-fitting room (l ∷ lines) = cond (leb (length l) room) (l ∷ fitting (room - length l) lines) []
+abbrev pub fittingLines : ℕ → List (List ℕ) → List (List ℕ)
+fittingLines room [] = []
+fittingLines room (l ∷ lines) = cond (leb (length l) room) (l ∷ fittingLines (room - length l) lines) []
 
 -- All lines of a degree's list but the first, in order. A degree outside 1 to 31 has none.
 unfoldable pub entryLines : ℕ → List (List ℕ)
@@ -24,7 +24,7 @@ entryLines n = cond (outside 1 31 n) [] (map (entryLine n) (numbers 0 (listLengt
 
 -- Those that fill `room` bytes from a position on.
 unfoldable pub filled : ℕ → ℕ → ℕ → List (List ℕ)
-filled n position room = fitting room (drop position (entryLines n))
+filled n position room = fittingLines room (drop position (entryLines n))
 
 -- They stand at the front of `out`; the answers are how many bytes they have, and the position behind them.
 pub record Fills (n position : ℕ) (out : List ℕ) (used next : ℕ) (out′ : List ℕ) : Type 0 where

@@ -5,16 +5,16 @@ use mathlib.Core.List.{List, [], _∷_, map}
 use lib.ListN.{length, getD, take, drop}
 use Rattle.pairs.specs.Loops.{numbers}
 use Rattle.lines.specs.Text.{line, Placed}
-use Rattle.lines.specs.Filling.{joined, fitting, entryLines}
+use Rattle.lines.specs.Filling.{joined, fittingLines, entryLines}
 
 -- Lines from a position on were put behind the first `used` bytes, as many as fit there.
 pub record Adds (lines : List (List ℕ)) (position : ℕ) (out : List ℕ) (used used′ next : ℕ) (out′ : List ℕ) : Type 0 where
-  pub bytes : Placed out used (joined (fitting (length out - used) lines)) used′ out′
-  pub stop : next ≡ position + length (fitting (length out - used) lines)
+  pub bytes : Placed out used (joined (fittingLines (length out - used) lines)) used′ out′
+  pub stop : next ≡ position + length (fittingLines (length out - used) lines)
 
 -- The same of one line.
 pub record AddsLine (l out : List ℕ) (used used′ : ℕ) (out′ : List ℕ) : Type 0 where
-  pub bytes : Placed out used (joined (fitting (length out - used) (l ∷ []))) used′ out′
+  pub bytes : Placed out used (joined (fittingLines (length out - used) (l ∷ []))) used′ out′
 
 -- The lines of the next 256 positions, or as many as there are.
 abbrev pub blockLines : ℕ → ℕ → List (List ℕ)

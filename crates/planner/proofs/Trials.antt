@@ -21,7 +21,7 @@ use Rattle.trial.proofs.Parser.{clear-append}
 use Rattle.trial.proofs.Apart.{Apart, levels-apart}
 use Rattle.trial.proofs.Content.{Sound, sound}
 use Rattle.trial.proofs.Codec.{read-same}
-use Rattle.planner.specs.Trial.{Stands, levelAt, Places, Meeting, TrialClaim}
+use Rattle.planner.specs.Trial.{LevelOf, levelAt, Places, Meeting, TrialClaim}
 
 -- The symbols of a square are the places of a list, in which equal levels stand at one place.
 record Given (N : ℕ) (levels : List ℕ) (square : Square) : Type 0 where
@@ -30,7 +30,7 @@ record Given (N : ℕ) (levels : List ℕ) (square : Square) : Type 0 where
   apart : Apart levels
 
 -- A site has the level exactly where it shows the level's place.
-level-here : {N : ℕ} {levels : List ℕ} {square : Square} → Given N levels square → {level : ℕ} (s : Stands level levels)
+level-here : {N : ℕ} {levels : List ℕ} {square : Square} → Given N levels square → {level : ℕ} (s : LevelOf level levels)
     → (site : Site) → On N site → (square (site .row) (site .col) ≡ s .place) ↔ (levelAt levels square site ≡ level)
 level-here given s site (hr, hc) = (
   (λ e. rw e (s .there)),

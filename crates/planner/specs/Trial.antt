@@ -15,7 +15,7 @@ use Rattle.trial.specs.Trial.{Trial}
 use Rattle.trial.specs.Replies.{read}
 
 -- The level stands in the list.
-pub record Stands (level : ℕ) (levels : List ℕ) : Type 0 where
+pub record LevelOf (level : ℕ) (levels : List ℕ) : Type 0 where
   pub place : ℕ
   pub below : place < length levels
   pub there : getD levels place 0 ≡ level
@@ -32,7 +32,7 @@ Places N levels square = (row col : ℕ) → row < N → col < N → square row 
 pub record Meeting (N : ℕ) (powers forces : List ℕ) (first second : Square) : Type 0 where
   pub power-given : Places N powers first
   pub force-given : Places N forces second
-  pub once : (power force : ℕ) → Stands power powers → Stands force forces
+  pub once : (power force : ℕ) → LevelOf power powers → LevelOf force forces
       → ExactlyOne (λ (site : Site). On N site × (levelAt powers first site ≡ power) × (levelAt forces second site ≡ force))
 
 -- The sheet call is served for a trial, and its bytes show two such squares.
