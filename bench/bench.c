@@ -12,12 +12,12 @@
 #include <stdlib.h>
 #include <time.h>
 
-enum { ROUNDS = 9, INPUTS = 32768, TRIALS = 1024, LIST_DEGREE = 11, SHEET_DEGREE = 6, SIDES = 2, LIST_PAIRS = 699050 };
+enum { ROUNDS = 101, LIST_ROUNDS = 9, INPUTS = 32768, TRIALS = 1024, LIST_DEGREE = 11, SHEET_DEGREE = 6, SIDES = 2, LIST_PAIRS = 699050 };
 
 enum { LIBRARY, PLAIN };
 
-/* How many times the plain C a single call may take. */
-static const double goal = 1.3;
+/* How many times the plain C's time a call may take, where no other goal is set. */
+#define GOAL 1.3
 
 /* An input of any job: a position, a pair, a site. */
 typedef struct Input {
@@ -200,25 +200,27 @@ static void run_write(int side, size_t from, size_t to)
     }
 }
 
-/* A job: how its inputs are made and run, how many there are, and whether it is timed at degrees 4, 11, 21, 31 or at a sheet's. */
+/* A job: how its inputs are made and run, how many there are, whether it is timed at degrees 4, 11, 21, 31 or at a sheet's, and how many
+ * times the plain C's time it may take. */
 typedef struct Job {
     const char *name;
     void (*prepare)(void);
     void (*run)(int side, size_t from, size_t to);
     size_t count;
     int sheets;
+    double goal;
 } Job;
 
 static const Job jobs[] = {
-    {"pair at, random", prepare_random, run_pair_at, INPUTS, 0},
-    {"pair at, rising", prepare_rising, run_pair_at, INPUTS, 0},
-    {"position of", prepare_random, run_position_of, INPUTS, 0},
-    {"chain", prepare_codes, run_chain, INPUTS, 0},
-    {"draw", prepare_rising, run_draw, INPUTS, 0},
-    {"site", prepare_random, run_site, INPUTS, 0},
-    {"sheet", prepare_random, run_sheet, TRIALS, 1},
-    {"read", prepare_trials, run_read, TRIALS, 1},
-    {"write", prepare_trials, run_write, TRIALS, 1},
+    {"pair at, random", prepare_random, run_pair_at, INPUTS, 0, GOAL},
+    {"pair at, rising", prepare_rising, run_pair_at, INPUTS, 0, GOAL},
+    {"position of", prepare_random, run_position_of, INPUTS, 0, GOAL},
+    {"chain", prepare_codes, run_chain, INPUTS, 0, 1.1},
+    {"draw", prepare_rising, run_draw, INPUTS, 0, GOAL},
+    {"site", prepare_random, run_site, INPUTS, 0, GOAL},
+    {"sheet", prepare_random, run_sheet, TRIALS, 1, GOAL},
+    {"read", prepare_trials, run_read, TRIALS, 1, GOAL},
+    {"write", prepare_trials, run_write, TRIALS, 1, GOAL},
 };
 
 /* What the rounds gave: medians in nanoseconds, the median of the rounds' ratios, and how far the middle half of the rounds
@@ -241,10 +243,10 @@ static int by_size(const void *a, const void *b)
 }
 
 /* Sorts the values of the rounds and gives the middle one. */
-static double median(double *values)
+static double median(double *values, size_t rounds)
 {
-    qsort(values, ROUNDS, sizeof *values, by_size);
-    return values[ROUNDS / 2];
+    qsort(values, rounds, sizeof *values, by_size);
+    return values[rounds / 2];
 }
 
 static void stop(const char *what)
@@ -280,7 +282,7 @@ static Line time_job(const Job *job)
         times[PLAIN][round] = time_side(job, PLAIN);
         ratios[round] = times[LIBRARY][round] / times[PLAIN][round];
     }
-    Line line = {median(times[LIBRARY]), median(times[PLAIN]), median(ratios), 0};
+    Line line = {median(times[LIBRARY], ROUNDS), median(times[PLAIN], ROUNDS), median(ratios, ROUNDS), 0};
     double below = line.ratio - ratios[ROUNDS / 4], above = ratios[ROUNDS - 1 - ROUNDS / 4] - line.ratio;
     line.spread = (below > above ? below : above) / line.ratio;
     return line;
@@ -386,14 +388,14 @@ static void compare_lists(void)
 /* The whole list by each way in turn, round by round. */
 static void time_lists(void)
 {
-    static double times[WAYS][ROUNDS];
-    for (int turn = 0; turn < ROUNDS * WAYS; turn++) {
+    static double times[WAYS][LIST_ROUNDS];
+    for (int turn = 0; turn < LIST_ROUNDS * WAYS; turn++) {
         double begin = now();
         ways[turn % WAYS].list(LIST_DEGREE, list);
         times[turn % WAYS][turn / WAYS] = (now() - begin) / LIST_PAIRS;
     }
     for (int way = 0; way < WAYS; way++)
-        ways[way].cost = median(times[way]);
+        ways[way].cost = median(times[way], LIST_ROUNDS);
 }
 
 static double cost_of(List *by)
@@ -406,7 +408,7 @@ static double cost_of(List *by)
 
 static void show_goal(const char *what, double value, double limit)
 {
-    printf("- %s: %.2f, ", what, value);
+    printf("- %s: %.2f, at most %.1f: ", what, value, limit);
     if (value <= limit)
         printf("met\n");
     else
@@ -450,19 +452,20 @@ static void show_lists(void)
     printf("\n| whole list of degree %d, into warm memory | ns a listed pair | to the C filter |\n|---|---|---|\n", LIST_DEGREE);
     for (int way = 0; way < WAYS; way++)
         printf("| %s | %.1f | %.2f |\n", ways[way].name, ways[way].cost, ways[way].cost / cost_of(filter_c));
+    printf("\nMedians of %d rounds.\n", LIST_ROUNDS);
 }
 
 static void show_goals(const Summary *summaries)
 {
-    printf("\nGoal: a call takes at most %.1f times the plain C of its job. The worst ratio:\n\n", goal);
+    printf("\nThe worst ratio of each job, and its goal:\n\n");
     for (int job = 0; job < JOBS; job++)
-        show_goal(jobs[job].name, summaries[job].worst, goal);
+        show_goal(jobs[job].name, summaries[job].worst, jobs[job].goal);
     printf("\nGoal: a pair at a position of degree %d costs no more than one pair that the C filter lists. The ratio:\n\n", LIST_DEGREE);
     show_goal("random order", cost_of(by_library_shuffled) / cost_of(filter_c), 1);
     show_goal("rising", cost_of(by_library) / cost_of(filter_c), 1);
 #ifdef PAIRS_FROM
-    printf("\nGoal: dw_pairs_from takes at most %.1f times the nested loops in plain C. The ratio:\n\n", goal);
-    show_goal("whole list", cost_of(by_pairs_from) / cost_of(list_in_order), goal);
+    printf("\nThe pairs from a position on, to the nested loops in plain C:\n\n");
+    show_goal("whole list", cost_of(by_pairs_from) / cost_of(list_in_order), GOAL);
 #endif
 }
 

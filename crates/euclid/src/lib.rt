@@ -3,9 +3,11 @@ use poly::Checked;
 use poly::Degree;
 use reply::Refusal;
 ghost use mathlib.Core.Path.{_≡_};
-ghost use Prim.Native.Nat.{_+_, _≤_};
+ghost use mathlib.Core.List.{[], _∷_};
+ghost use Prim.Native.Nat.{_≤_};
 ghost use lib.ListN.{length};
 ghost use lib.Seq.{sets};
+ghost use Rattle.reply.specs.Reply.{served};
 ghost use Rattle.poly.specs.Coprime.{gcd};
 ghost use Rattle.poly.specs.Replies.{checkedReply};
 ghost use Rattle.euclid.specs.Chain.{chain};
@@ -32,25 +34,30 @@ pub fn quotients(n: u32, f: u32, g: u32, out: &mut [u32]) -> Chained
     if out.len() < 32 {
         return Chained::Refused(Refusal::SliceLength);
     }
-    let mut divisor: u32 = 0;
-    let count = divisions(f, g, out, 0, &mut divisor);
-    Chained::Quotients { count, divisor }
+    divisions(f, g, out)
 }
 
-// The quotients of a and b, written from out[at] on, and the last divisor. It gives the position behind them. What falls from call to call
-// is the degree: a remainder has a lower one than its divisor, or is 0.
-fn divisions(a: u32, b: u32, out: &mut [u32], at: usize, divisor: &mut u32) -> usize
-    requires { ⌜ at + length (chain 2 a b .quotients) ≤ length (now out) ⌝ }
-    ensures end { λ r. ⌜ (r ≡ at + length (chain 2 a b .quotients)) × (now (divisor .exit) ≡ chain 2 a b .divisor) ⌝ }
-    ensures written { λ r. ⌜ now (out .exit) ≡ sets (now (out .entry)) at (chain 2 a b .quotients) ⌝ }
+// Writes the quotients of f and g to the front of out, each as it is found; it refuses nothing. The divisor falls with each division.
+fn divisions(f: u32, g: u32, out: &mut [u32]) -> Chained
+    requires { ⌜ length (chain 2 f g .quotients) ≤ length (now out) ⌝ }
+    ensures reply { λ r. ⌜ chainedReply r ≡ served (length (chain 2 f g .quotients) ∷ chain 2 f g .divisor ∷ []) ⌝ }
+    ensures written { λ r. ⌜ now (out .exit) ≡ sets (now (out .entry)) 0 (chain 2 f g .quotients) ⌝ }
 {
-    if b == 0 {
-        *divisor = a;
-        return at;
+    let mut dividend = f;
+    let mut divisor = g;
+    let mut count: usize = 0;
+    while divisor != 0 {
+        let d = poly::divide(dividend, divisor);
+        out[count] = d.quotient;
+        count += 1;
+        dividend = divisor;
+        divisor = d.remainder;
     }
-    let d = poly::divide(a, b);
-    out[at] = d.quotient;
-    divisions(b, d.remainder, out, at + 1, divisor)
+    // By now the last divisor is the dividend.
+    Chained::Quotients {
+        count,
+        divisor: dividend,
+    }
 }
 
 // The greatest common divisor.

@@ -80,7 +80,9 @@ pub struct Divided {
     pub remainder: u32,
 }
 
-// Quotient and remainder. Each turn takes the remainder's leading term away. By 0: quotient 0, remainder a.
+// Quotient and remainder. Each turn takes the remainder's leading term away, while its degree is at least b's. By 0: quotient 0, remainder
+// a. The limit is 2^d - 1 for b of degree d. A comparison with it waits for no leading zeros of the new remainder, so the processor learns
+// sooner that the loop has ended; and what is above it is not 0, which spares a test.
 pub fn divide(a: u32, b: u32) -> Divided
     ensures { λ r. ⌜ divisionOf r ≡ divide 2 a b ⌝ }
 {
@@ -93,7 +95,8 @@ pub fn divide(a: u32, b: u32) -> Divided
         };
     }
     let zeros = u32::leading_zeros(b);
-    while u32::leading_zeros(remainder) <= zeros {
+    let limit = 2147483647 >> zeros;
+    while limit < remainder {
         let shift = zeros - u32::leading_zeros(remainder);
         quotient = quotient ^ (1 << shift);
         remainder = remainder ^ (b << shift);

@@ -1,12 +1,8 @@
 -- `gcd` meets its contract. The invariant: a and b have the same greatest common divisor as f and g; b falls.
 use mathlib.Core.Path.{_≡_, refl, sym, ap, _∙_}
-use Prim.Native.Nat.{_<_}
-use native.Mathlib.Nat.{le-refl, pos-of-ne-zero}
 use borrow.Author.Needs.{needs}
 use Rattle.poly.specs.Coprime.{gcd}
-use Rattle.poly.proofs.Division.{remainder-lt}
-use Rattle.poly.proofs.Primes.{inverses-2}
-use Rattle.euclid.proofs.Chains.{gcd-step}
+use Rattle.euclid.proofs.Steps.{divided-gcd, divided-less}
 use Rattle.euclid.proofs.gcd.Statement.{statement}
 use Rattle.euclid.proofs.gcd.Tie as tie
 
@@ -22,19 +18,15 @@ loop-holds c = refl
 divide-requires : tie.Need-divide-requires Inv-loop μ-loop
 divide-requires c κs = search needs
 
-nonzero : (c : tie.After-divide Inv-loop μ-loop) → 0 < c .before .before .loop .b
-nonzero c = pos-of-ne-zero (c .before .loop-test .taken)
-
 loop-less : tie.Need-loop-less Inv-loop μ-loop
 loop-less c =
-    rw (ap (λ d. d .remainder) (c .divide .ensures))
-    (remainder-lt 2 (le-refl 2) inverses-2 (c .before .before .loop .a) (c .before .before .loop .b) (nonzero c))
+    let l = c .before .before .loop in
+    divided-less (l .a) (l .b) (c .before .loop-test .taken) (c .divide .ensures)
 
 loop-again : tie.Need-loop-again Inv-loop μ-loop
 loop-again c =
-    rw (ap (λ d. d .remainder) (c .divide .ensures))
-    (sym (gcd-step 2 (le-refl 2) inverses-2 (c .before .before .loop .a) (c .before .before .loop .b) (nonzero c))
-    ∙ c .before .before .loop .inv)
+    let l = c .before .before .loop in
+    sym (divided-gcd (l .a) (l .b) (c .before .loop-test .taken) (c .divide .ensures)) ∙ l .inv
 
 returns : tie.Need-returns Inv-loop μ-loop
 unfolding gcd

@@ -1,8 +1,8 @@
 -- `quotients` meets its contract: the causes in their order, and then the divisions, for whose quotients 32 places are enough.
 use mathlib.Core.Bool.{false}
 use mathlib.Core.List.{List, [], _∷_, _++_}
-use mathlib.Core.Path.{_≡_, sym, ap, ap₂, _∙_}
-use Prim.Native.Nat.{ℕ, _+_, _^_, _≤_, _<_}
+use mathlib.Core.Path.{_≡_, sym, ap, _∙_}
+use Prim.Native.Nat.{ℕ, _^_, _≤_, _<_}
 use native.Mathlib.Nat.{le-refl, zero-add}
 use native.Mathlib.Omega.{arith}
 use borrow.Author.Needs.{needs}
@@ -40,13 +40,13 @@ module _ (n f g : ℕ) (out : List ℕ) where
       short l = refuses (rw (degree, passed _ _ (codeCauses n f ++ codeCauses n g) codes, lt-ltb (length out) 32 l))
 
       done : 32 ≤ length out → g < 2 ^ 32
-          → (served ((0 + length qs) ∷ chain 2 f g .divisor ∷ []) ≡ chainReply n f g (length out))
+          → (served (length qs ∷ chain 2 f g .divisor ∷ []) ≡ chainReply n f g (length out))
           × (sets out 0 qs ≡ chainContent n f g out)
       done l fits =
           let e : chainReply n f g (length out) ≡ served (length qs ∷ chain 2 f g .divisor ∷ []) =
           rw (degree, passed _ _ (codeCauses n f ++ codeCauses n g) codes, le-ltb (length out) 32 l) in
           let few : length qs ≤ 32 = chain-length 2 (le-refl 2) inverses-2 f g 32 fits in (
-            rw zero-add (sym e),
+            sym e,
             sets-eq qs out 0 (omega arith) ∙ rw zero-add (sym (ap (λ (r : Reply). after r (qs ++ drop (length qs) out) out) e)),
           )
 
@@ -84,7 +84,7 @@ returns-3 c =
 
 divisions-requires : tie.Need-divisions-requires
 divisions-requires c κs =
-    let a = c .before .before .before .before .before .before .before .before .before .args in
+    let a = c .before .before .before .before .before .before .before .before .args in
     omega (arith, chain-length 2 (le-refl 2) inverses-2 (a .f) (a .g) 32 (search needs))
 
 same-length : tie.Need-same-length
@@ -92,15 +92,15 @@ same-length c = search needs
 
 returns-4 : tie.Need-returns-4
 returns-4 c =
-    let left = c .before .before .before .before .before in
+    let left = c .before .before .before .before in
     let checked = left .before .before .before in
     let start = checked .before .before .before .before in
     let a = start .args in
-    let ((count, divisor), written) = c .before .before .divisions .ensures in
+    let (replied, written) = c .before .before .divisions .ensures in
     let (reply, content) = done (a .n) (a .f) (a .g) (a .out .now)
     (sym (checked .before .before .outside .ensures) ∙ checked .before .if1 .left)
     (sym (ap checkedReply (left .before .enum-told .given .1)) ∙ checked .check-pair .ensures) (left .if2 .left) (start .fits .g .fits) in
-    (ap₂ (λ (u v : ℕ). served (u ∷ v ∷ [])) count divisor ∙ reply, written ∙ content)
+    (replied ∙ reply, written ∙ content)
 
 pub quotients-spec : {M : Type 1} → statement M
 quotients-spec =

@@ -1,14 +1,13 @@
 -- `divide` meets its contract. The invariant: quotient times b plus remainder is a. A turn adds the same multiple of b to both sides and
 -- clears the remainder's leading term; at the end the remainder is small, and division is unique.
-use mathlib.Core.Logic.{_⊎_, inl, inr}
 use mathlib.Core.Path.{_≡_, sym, ap, _∙_}
-use Prim.Native.Nat.{ℕ, suc, _+_, _-_, _*_, _%_, _^_, _≤_, _<_}
-use native.Mathlib.Nat.{le-refl, pos-of-ne-zero, eq-zero-or-pos, lt-of-lt-of-le, lt-trans}
+use Prim.Native.Nat.{ℕ, suc, _+_, _-_, _*_, _/_, _%_, _^_, _≤_, _<_}
+use native.Mathlib.Nat.{le-refl, pos-of-ne-zero, lt-of-lt-of-le, lt-trans}
 use native.Mathlib.Omega.{arith}
 use lib.Dec.{lit<}
 use lib.Bits.{bitXor}
-use lib.Count.{leadingZeros, leading-of-zero, leading-top, leading-length}
-use lib.Pow.{pow-mono, shl-exact}
+use lib.Count.{leadingZeros, leading-top}
+use lib.Pow.{pow-lt, shl-exact, high, ones-lt, ones-split, lt-of-le-ones}
 use Rattle.poly.specs.Code.{add, mul, HasDegree}
 use Rattle.poly.specs.Division.{divide}
 use Rattle.poly.proofs.Ring
@@ -28,27 +27,36 @@ record Place (b r s : ℕ) : Type 0 where
   n : ℕ
   divisor : HasDegree 2 n b
   remainder : HasDegree 2 (s + n) r
+  shift : s + zeros r ≡ zeros b
   fits : suc (s + n) ≤ 32
 
+-- the code's limit: at most that are the codes of lower degree than b
+abbrev limit : ℕ → ℕ
+limit b = 2147483647 / 2 ^ zeros b
+
+limit-is : (b j : ℕ) → zeros b + suc j ≡ 32 → limit b ≡ 2 ^ j - 1
+limit-is b j e =
+    let bits : 31 ≡ j + zeros b = omega arith in
+    ap (λ (k : ℕ). (2 ^ k - 1) / 2 ^ zeros b) bits ∙ ap (λ (v : ℕ). v / 2 ^ zeros b) (ones-split j (zeros b))
+    ∙ high (2 ^ j - 1) (zeros b) (ones-lt (zeros b))
+
 -- the shift s by the leading zeros
-place : (b r : ℕ) → 0 < b → b < 2 ^ 32 → r < 2 ^ 32 → zeros r ≤ zeros b → Place b r (zeros b - zeros r)
-place b r pos hb hr h = go (eq-zero-or-pos r)
-  where
-    go : (r ≡ 0) ⊎ (0 < r) → Place b r (zeros b - zeros r)
-    go (inl e) =
-        let (j, eb, low, high) = leading-top 32 b pos hb in
-        let all : zeros r ≡ 32 = ap zeros e ∙ leading-of-zero 32 in
-        absurd (omega arith)
-    go (inr r-pos) =
-        let (j, eb, low, high) = leading-top 32 b pos hb in
-        let (m, er, low′, high′) = leading-top 32 r r-pos hr in
-        let e : zeros b - zeros r + j ≡ m = omega arith in
-        record {
-          n = j;
-          divisor = record { low = low; high = high };
-          remainder = rw e (record { low = low′; high = high′ });
-          fits = omega arith;
-        }
+place : (b r : ℕ) → 0 < b → b < 2 ^ 32 → r < 2 ^ 32 → limit b < r → Place b r (zeros b - zeros r)
+place b r pos hb hr h =
+    let (j, eb, least, most) = leading-top 32 b pos hb in
+    let long : 2 ^ j ≤ r = omega (arith, limit-is b j eb, h) in
+    let (m, er, least′, most′) = leading-top 32 r (omega (arith, h)) hr in
+    let power : HasDegree 2 j (2 ^ j) = record { low = le-refl (2 ^ j); high = pow-lt (le-refl (suc j)) } in
+    let has : HasDegree 2 m r = record { low = least′; high = most′ } in
+    let le : j ≤ m = Leading.degree-le 2 (le-refl 2) power has long in
+    let e : zeros b - zeros r + j ≡ m = omega arith in
+    record {
+      n = j;
+      divisor = record { low = least; high = most };
+      remainder = rw e has;
+      shift = omega arith;
+      fits = omega arith;
+    }
 
 -- one turn at the shift s: the remainder falls, and the sum stays
 module _ {b r s : ℕ} (at : Place b r s) where
@@ -79,24 +87,34 @@ module _ {b r s : ℕ} (at : Place b r s) where
       ∙ Ring.add-neg-cancel 2 (le-refl 2) (mul 2 q b) (b * 2 ^ s) r ∙ sum)
 
 -- the end: the remainder is smaller than b
-ends : (a b q r : ℕ) → 0 < b → b < 2 ^ 32 → r < 2 ^ 32 → zeros b < zeros r → add 2 (mul 2 q b) r ≡ a
+ends : (a b q r : ℕ) → 0 < b → b < 2 ^ 32 → r ≤ limit b → add 2 (mul 2 q b) r ≡ a
     → record { quotient = q; remainder = r } ≡ divide 2 a b
-ends a b q r pos hb hr h sum =
-    let (j, eb, low, high) = leading-top 32 b pos hb in
-    let (m, er, lt, _) = leading-length 32 r hr in
-    let small : r < 2 ^ j = lt-of-lt-of-le lt (pow-mono {i = m} {j = j} (omega arith)) in
-    let (eq, er) = divide-is 2 (le-refl 2) inverses-2 (record { low = low; high = high }) (record { sum = sum; small = small }) in
+ends a b q r pos hb h sum =
+    let (j, eb, least, most) = leading-top 32 b pos hb in
+    let small : r < 2 ^ j = lt-of-le-ones j (rw (limit-is b j eb) at h) in
+    let (eq, er) = divide-is 2 (le-refl 2) inverses-2 (record { low = least; high = most }) (record { sum = sum; small = small }) in
     λ i. record { quotient = eq i; remainder = er i }
 
 abbrev Inv-loop : tie.InvT-loop
-Inv-loop a b quotient₀ remainder₀ zeros quotient remainder = (remainder < 2 ^ 32) × (add 2 (mul 2 quotient b) remainder ≡ a)
+Inv-loop a b quotient₀ remainder₀ zeros limit quotient remainder = (remainder < 2 ^ 32) × (add 2 (mul 2 quotient b) remainder ≡ a)
 
 abbrev μ-loop : tie.MeasureT-loop
-μ-loop a b quotient₀ remainder₀ zeros quotient remainder = remainder
+μ-loop a b quotient₀ remainder₀ zeros limit quotient remainder = remainder
 
 returns : tie.Need-returns Inv-loop μ-loop
 unfolding divide
 returns c = rw (c .if1 .taken)
+
+returns-2 : tie.Need-returns-2 Inv-loop μ-loop
+returns-2 c =
+    ends (c .before .before .before .args .a) (c .before .before .before .args .b) (c .before .loop .quotient)
+    (c .before .loop .remainder) (pos-of-ne-zero (c .before .before .if1 .left)) (c .before .before .before .fits .b .fits)
+    (c .loop-test .left) (c .before .loop .inv .1)
+
+shr-limit : tie.Need-shr-limit Inv-loop μ-loop
+shr-limit c =
+    let (j, e, _, _) = leading-top 32 (c .before .args .b) (pos-of-ne-zero (c .if1 .left)) (c .before .fits .b .fits) in
+    omega arith
 
 loop-holds : tie.Need-loop-holds Inv-loop μ-loop
 loop-holds c = (
@@ -108,10 +126,10 @@ here : (c : tie.In-loop Inv-loop μ-loop) → Place (c .before .before .before .
     (zeros (c .before .before .before .args .b) - zeros (c .before .loop .remainder))
 here c =
     place (c .before .before .before .args .b) (c .before .loop .remainder) (pos-of-ne-zero (c .before .before .if1 .left))
-    (c .before .before .before .fits .b .fits) (c .before .loop .inv .0) (omega arith)
+    (c .before .before .before .fits .b .fits) (c .before .loop .inv .0) (c .loop-test .taken)
 
 sub-shift : tie.Need-sub-shift Inv-loop μ-loop
-sub-shift c = omega arith
+sub-shift c = omega (arith, here c .shift)
 
 shl-quotient : tie.Need-shl-quotient Inv-loop μ-loop
 shl-quotient c = omega (arith, here c .fits)
@@ -128,12 +146,6 @@ loop-again c = (
   stays (here c) (c .before .before .before .args .a) (c .before .loop .quotient) (c .before .loop .inv .1),
 )
 
-returns-2 : tie.Need-returns-2 Inv-loop μ-loop
-returns-2 c =
-    ends (c .before .before .before .args .a) (c .before .before .before .args .b) (c .before .loop .quotient)
-    (c .before .loop .remainder) (pos-of-ne-zero (c .before .before .if1 .left)) (c .before .before .before .fits .b .fits)
-    (c .before .loop .inv .0) (c .loop-test .left) (c .before .loop .inv .1)
-
 pub divide-spec : {M : Type 1} → statement M
 divide-spec =
     tie.close
@@ -141,6 +153,7 @@ divide-spec =
     Inv-loop
     μ-loop
     returns
+    shr-limit
     loop-holds
     sub-shift
     shl-quotient
