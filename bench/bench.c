@@ -101,27 +101,41 @@ static void prepare_codes(void)
     }
 }
 
-static void random_levels(uint16_t *levels)
+/* Levels in steps of 1 to 99, rising or in random order. */
+static void random_levels(uint16_t *levels, int rising)
 {
     uint32_t level = 0;
-    for (size_t i = 0; i < 64; i++)
-        levels[i] = (uint16_t)(level += 1 + (uint32_t)random_below(99));
+    for (size_t i = 0; i < 64; i++) {
+        size_t j = rising ? i : random_below(i + 1);
+        levels[i] = levels[j];
+        levels[j] = (uint16_t)(level += 1 + (uint32_t)random_below(99));
+    }
 }
 
-/* Random trials: levels in steps of 1 to 99, names of 8 to 40 letters. */
-static void prepare_trials(void)
+/* Random trials, with names of 8 to 40 letters. */
+static void make_trials(int rising)
 {
     prepare_random();
     for (size_t i = 0; i < TRIALS; i++) {
         Trial *t = &trials[i];
         t->f = inputs[i].f;
         t->g = inputs[i].g;
-        random_levels(t->powers);
-        random_levels(t->forces);
+        random_levels(t->powers, rising);
+        random_levels(t->forces, rising);
         t->name_length = 8 + random_below(33);
         memset(t->name, 'a' + (int)(i % 26), t->name_length);
         plain_write(degree, t->f, t->g, t->powers, 64, t->forces, 64, t->name, t->name_length, t->file, sizeof t->file, &t->length);
     }
+}
+
+static void prepare_trials(void)
+{
+    make_trials(1);
+}
+
+static void prepare_shuffled(void)
+{
+    make_trials(0);
 }
 
 /* The calls of both sides, and for each job a loop over a range of the inputs. */
@@ -221,6 +235,8 @@ static const Job jobs[] = {
     {"sheet", prepare_random, run_sheet, TRIALS, 1, GOAL},
     {"read", prepare_trials, run_read, TRIALS, 1, GOAL},
     {"write", prepare_trials, run_write, TRIALS, 1, GOAL},
+    {"read, shuffled", prepare_shuffled, run_read, TRIALS, 1, GOAL},
+    {"write, shuffled", prepare_shuffled, run_write, TRIALS, 1, GOAL},
 };
 
 /* What the rounds gave: medians in nanoseconds, the median of the rounds' ratios, and how far the middle half of the rounds

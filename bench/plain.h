@@ -341,22 +341,53 @@ static inline uint32_t plain_read_head(const uint8_t **at, const uint8_t *end, u
     return !plain_coprime(*f, *g) ? DW_REFUSED_COMMON_FACTOR : DW_SERVED;
 }
 
-/* One list of levels. */
+/* Whether levels rise strictly. */
+static inline int plain_rising(const uint16_t *levels, size_t count)
+{
+    uint32_t wrong = 0;
+    for (size_t i = 1; i < count; i++)
+        wrong |= levels[i] <= levels[i - 1];
+    return !wrong;
+}
+
+/* Whether a level is one of those given. */
+static inline int plain_among(const uint16_t *levels, size_t count, uint16_t level)
+{
+    uint32_t found = 0;
+    for (size_t i = 0; i < count; i++)
+        found |= levels[i] == level;
+    return found != 0;
+}
+
+/* Whether no level comes twice. A level is looked for only if an earlier one has the same remainder by 1024. */
+static inline int plain_distinct(const uint16_t *levels, size_t count)
+{
+    if (plain_rising(levels, count))
+        return 1;
+    uint8_t seen[1024] = {0};
+    for (size_t i = 0; i < count; i++) {
+        if (seen[levels[i] % 1024] && plain_among(levels, i, levels[i]))
+            return 0;
+        seen[levels[i] % 1024] = 1;
+    }
+    return 1;
+}
+
+/* One list of levels. A level that comes twice is refused before what stopped the reading behind it. */
 static inline uint32_t plain_read_levels(const uint8_t **at, const uint8_t *end, uint32_t count, uint16_t *levels)
 {
-    uint32_t least = 0;
-    for (uint32_t i = 0; i < count; i++) {
-        uint32_t level, why = plain_number(at, end, &level);
-        if (why != DW_SERVED)
-            return why;
-        if (level > 65535)
-            return DW_REFUSED_LEVEL_RANGE;
-        if (level < least)
-            return DW_REFUSED_LEVEL_ORDER;
+    uint32_t i, why = DW_SERVED;
+    for (i = 0; i < count; i++) {
+        uint32_t level;
+        if ((why = plain_number(at, end, &level)) != DW_SERVED)
+            break;
+        if (level > 65535) {
+            why = DW_REFUSED_LEVEL_RANGE;
+            break;
+        }
         levels[i] = (uint16_t)level;
-        least = level + 1;
     }
-    return DW_SERVED;
+    return !plain_distinct(levels, i) ? DW_REFUSED_LEVEL_REPEATED : why;
 }
 
 /* Whether all bytes are from 32 to 126. */
@@ -410,15 +441,6 @@ PLAIN_CALL plain_read(const uint8_t *file, size_t length, uint16_t *powers, size
     return DW_SERVED;
 }
 
-/* Whether levels rise strictly. */
-static inline int plain_rising(const uint16_t *levels, size_t count)
-{
-    uint32_t wrong = 0;
-    for (size_t i = 1; i < count; i++)
-        wrong |= levels[i] <= levels[i - 1];
-    return !wrong;
-}
-
 /* Puts the bytes of a number, and gives the place behind them. */
 static inline uint8_t *plain_put(uint8_t *at, uint32_t number)
 {
@@ -446,8 +468,8 @@ PLAIN_CALL plain_write(uint32_t n, uint32_t f, uint32_t g, const uint16_t *power
         return why;
     if (powers_count != (size_t)1 << n || forces_count != (size_t)1 << n)
         return DW_REFUSED_SLICE_LENGTH;
-    if (!plain_rising(powers, powers_count) || !plain_rising(forces, forces_count))
-        return DW_REFUSED_LEVEL_ORDER;
+    if (!plain_distinct(powers, powers_count) || !plain_distinct(forces, forces_count))
+        return DW_REFUSED_LEVEL_REPEATED;
     if (name_length > 40)
         return DW_REFUSED_NAME_LENGTH;
     if (!plain_printable(name, name_length))

@@ -38,7 +38,7 @@
 #include <stdint.h>
 
 /* The version of this interface. MAJOR grows where a caller may have to change, MINOR where something is added. */
-#define DW_VERSION_MAJOR 1
+#define DW_VERSION_MAJOR 2
 #define DW_VERSION_MINOR 0
 #define DW_VERSION (1000 * DW_VERSION_MAJOR + DW_VERSION_MINOR)
 
@@ -76,7 +76,7 @@ enum {
     DW_REFUSED_VERSION = 11,        /* version not 1 */
     DW_REFUSED_SHEET_DEGREE = 12,   /* degree of a sheet or a file outside 2 to 6 */
     DW_REFUSED_LEVEL_RANGE = 13,    /* level above 65535; dw_read alone can meet one */
-    DW_REFUSED_LEVEL_ORDER = 14,    /* level not above the one before it */
+    DW_REFUSED_LEVEL_REPEATED = 14, /* level equal to an earlier one of its list */
     DW_REFUSED_NAME_LENGTH = 15,    /* name longer than 40 bytes */
     DW_REFUSED_NAME_BYTE = 16,      /* name byte outside 32 to 126 */
     DW_REFUSED_TRAILING_BYTES = 17, /* bytes after the name */
@@ -176,10 +176,11 @@ uint32_t dw_sheet(uint32_t n, uint32_t f, uint32_t g, uint8_t *sheet, size_t roo
 /*
  * Reads a trial file, the length bytes of file. powers_room and forces_room are how many numbers powers and forces can hold.
  * Served: *degree, *f and *g are the file's. The first 2^*degree numbers of powers are its powers, in milliwatts, and those of forces its
- * forces, in millinewtons, both rising; the numbers behind them are unchanged. Its name is the *name_length bytes from file[*name_offset]
- * on, the last of the file, at most DW_NAME_ROOM, with no 0 behind them; for an empty name *name_offset is length.
+ * forces, in millinewtons, both in the file's order, rising or not; no two of a list are equal. The numbers behind them are
+ * unchanged. Its name is the *name_length bytes from file[*name_offset] on, the last of the file, at most DW_NAME_ROOM, with no 0 behind
+ * them; for an empty name *name_offset is length.
  * Refused: SLICE_LENGTH if powers_room or forces_room is below DW_LEVELS_ROOM, also if the file has fewer levels. Then field by field:
- * VERSION; SHEET_DEGREE; CODE_DEGREE, CONSTANT_TERM for f, then for g; COMMON_FACTOR; LEVEL_RANGE, LEVEL_ORDER for each power, then for
+ * VERSION; SHEET_DEGREE; CODE_DEGREE, CONSTANT_TERM for f, then for g; COMMON_FACTOR; LEVEL_RANGE, LEVEL_REPEATED for each power, then for
  * each force; NAME_LENGTH; FILE_ENDS, NAME_BYTE for the name; TRAILING_BYTES. Ahead of its field's own refusals, each number is refused by
  * FILE_ENDS if the file ends where the number is unfinished and has fewer than five bytes, and then by NUMBER_FORM.
  */
@@ -192,7 +193,7 @@ uint32_t dw_read(const uint8_t *file, size_t length, uint16_t *powers, size_t po
  * of name_length bytes, with no 0 behind it. room is how many bytes file can hold; DW_FILE_ROOM are always enough.
  * Served: *length is how many bytes the file has; they are the first of file. The bytes behind them are unchanged.
  * Refused: SHEET_DEGREE; CODE_DEGREE, CONSTANT_TERM for f, then for g; COMMON_FACTOR; SLICE_LENGTH if powers_count or forces_count is not
- * 2^n; LEVEL_ORDER for powers, then for forces; NAME_LENGTH; NAME_BYTE; SLICE_LENGTH if room is below the file's length.
+ * 2^n; LEVEL_REPEATED for powers, then for forces; NAME_LENGTH; NAME_BYTE; SLICE_LENGTH if room is below the file's length.
  */
 DW_MUST_CHECK
 uint32_t dw_write(uint32_t n, uint32_t f, uint32_t g, const uint16_t *powers, size_t powers_count, const uint16_t *forces,

@@ -19,10 +19,10 @@ CHECK(DW_SERVED == 0 && DW_SPENT == 255);
 CHECK(DW_REFUSED_DEGREE_RANGE == 1 && DW_REFUSED_POSITION_RANGE == 2 && DW_REFUSED_WALK_RECORD == 3 && DW_REFUSED_SLICE_LENGTH == 4);
 CHECK(DW_REFUSED_SITE_RANGE == 5 && DW_REFUSED_CODE_DEGREE == 6 && DW_REFUSED_CONSTANT_TERM == 7 && DW_REFUSED_COMMON_FACTOR == 8);
 CHECK(DW_REFUSED_FILE_ENDS == 9 && DW_REFUSED_NUMBER_FORM == 10 && DW_REFUSED_VERSION == 11 && DW_REFUSED_SHEET_DEGREE == 12);
-CHECK(DW_REFUSED_LEVEL_RANGE == 13 && DW_REFUSED_LEVEL_ORDER == 14 && DW_REFUSED_NAME_LENGTH == 15 && DW_REFUSED_NAME_BYTE == 16);
+CHECK(DW_REFUSED_LEVEL_RANGE == 13 && DW_REFUSED_LEVEL_REPEATED == 14 && DW_REFUSED_NAME_LENGTH == 15 && DW_REFUSED_NAME_BYTE == 16);
 CHECK(DW_REFUSED_TRAILING_BYTES == 17);
 CHECK(DW_CHAIN_ROOM == 32 && DW_LEVELS_ROOM == 64 && DW_SHEET_ROOM == 8192 && DW_FILE_ROOM == 429 && DW_NAME_ROOM == 40);
-CHECK(DW_STACK_ROOM == 8192 && DW_VERSION_MAJOR == 1 && DW_VERSION_MINOR == 0 && DW_VERSION == 1000);
+CHECK(DW_STACK_ROOM == 8192 && DW_VERSION_MAJOR == 2 && DW_VERSION_MINOR == 0 && DW_VERSION == 2000);
 
 enum { SEED = 20261115, GUARD = 64, LARGEST = 1 << 14, SLOTS = 16 };
 
@@ -292,6 +292,29 @@ static void try_walk(void)
     }
 }
 
+/* Some levels: rising in steps, 0 and 65535 among them now and then; often shuffled; now and then all with one remainder by 1024; sometimes
+ * with one that is equal to an earlier one, at any distance. */
+static void some_levels(uint16_t *levels, size_t count)
+{
+    uint32_t level = draw(2) ? draw(300) : 0, step = draw(16) ? 0 : 1024;
+    for (size_t i = 0; i < 64; i++) {
+        levels[i] = (uint16_t)level;
+        level += step ? step : 1 + draw(1000);
+    }
+    if (count > 0 && draw(8) == 0)
+        levels[count - 1] = 65535;
+    for (size_t i = draw(4) ? count : 0; i > 1; i--) {
+        size_t j = draw((uint32_t)i);
+        uint16_t kept = levels[i - 1];
+        levels[i - 1] = levels[j];
+        levels[j] = kept;
+    }
+    if (count > 1 && draw(12) == 0) {
+        size_t later = 1 + draw((uint32_t)count - 1);
+        levels[later] = levels[draw((uint32_t)later)];
+    }
+}
+
 /* A content that is mostly good, and its name. */
 static void some_content(ref_trial *t, uint8_t *name, size_t counts[2])
 {
@@ -304,11 +327,7 @@ static void some_content(ref_trial *t, uint8_t *name, size_t counts[2])
         counts[list] = t->n > 6 ? draw(65) : (size_t)1 << t->n;
         if (draw(32) == 0)
             counts[list] = draw(65);
-        uint32_t level = draw(300);
-        for (size_t i = 0; i < 64; i++) {
-            t->levels[list][i] = (uint16_t)level;
-            level += draw(64 * 24) ? 1 + draw(1000) : 0;
-        }
+        some_levels(t->levels[list], counts[list]);
     }
     t->size = draw(32) ? draw(41) : 41 + draw(3);
     for (size_t i = 0; i < t->size; i++)
@@ -446,6 +465,82 @@ static void longest_file(void)
     count(dw_write(6, 67, 91, levels, 64, levels, 64, name, 41, file, sizeof file, &length), 15, "name of 41 bytes");
 }
 
+/* The file of a content up to and with a level of one of its lists. */
+static size_t front_of(const ref_trial *t, int list, size_t place, uint8_t *file)
+{
+    size_t at = ref_put(file, ref_put(file, ref_put(file, ref_put(file, 0, 1), t->n), t->f), t->g);
+    for (int l = 0; l <= list; l++)
+        for (size_t i = 0; l < list ? i < (size_t)1 << t->n : i <= place; i++)
+            at = ref_put(file, at, t->levels[l][i]);
+    return at;
+}
+
+/* A file is refused with the number, and levels that are lent keep what they are. */
+static void refused_file(const uint8_t *file, size_t length, uint32_t number, const char *what)
+{
+    uint16_t lent[2][DW_LEVELS_ROOM], kept[2][DW_LEVELS_ROOM];
+    uint32_t n, f, g;
+    size_t at, size;
+    memset(lent, 165, sizeof lent);
+    memset(kept, 165, sizeof kept);
+    count(dw_read(file, length, lent[0], DW_LEVELS_ROOM, lent[1], DW_LEVELS_ROOM, &n, &f, &g, &at, &size), number, what);
+    expect(memcmp(lent, kept, sizeof lent) == 0, what);
+}
+
+/* One level, at `place`, is equal to an earlier one: 14 in the writer, and in the reader whatever stands behind it; what stands before it
+ * is refused first. */
+static void repeated_level(ref_trial *t, int list, size_t place)
+{
+    static const uint8_t behind[3][3] = { { 0x80, 0x80, 4 }, { 0x82, 0, 0 }, { 0xff, 0xff, 0xff } };
+    uint8_t file[1024];
+    size_t order = (size_t)1 << t->n, end = front_of(t, list, place, file), length;
+    uint32_t wrote = dw_write(t->n, t->f, t->g, t->levels[0], order, t->levels[1], order, NULL, 0, file + 512, 512, &length);
+    count(wrote, 14, "repeated level: written");
+    refused_file(file, end, 14, "repeated level: end of the file");
+    refused_file(file, end - 1, 9, "repeated level: not whole");
+    for (int i = 0; i < 3; i++) {
+        memcpy(file + end, behind[i], 3);
+        refused_file(file, end + 3, 14, "repeated level: bad number behind");
+    }
+    file[2] ^= 1;
+    refused_file(file, end, 7, "repeated level: even code before");
+}
+
+/* Levels that differ, in no order, are written and read back. */
+static void shuffled_levels(const ref_trial *t)
+{
+    uint16_t lent[2][DW_LEVELS_ROOM];
+    uint8_t file[DW_FILE_ROOM];
+    size_t order = (size_t)1 << t->n, length = 0, at, size;
+    uint32_t n, f, g;
+    uint32_t wrote = dw_write(t->n, t->f, t->g, t->levels[0], order, t->levels[1], order, NULL, 0, file, sizeof file, &length);
+    count(wrote, 0, "shuffled: written");
+    count(dw_read(file, length, lent[0], DW_LEVELS_ROOM, lent[1], DW_LEVELS_ROOM, &n, &f, &g, &at, &size), 0, "shuffled: read");
+    expect(n == t->n && f == t->f && g == t->g, "shuffled: head");
+    for (int list = 0; list < 2; list++)
+        expect(memcmp(lent[list], t->levels[list], 2 * order) == 0, "shuffled: levels");
+}
+
+/* Every two places of a list, in both lists, with 0, 65535 or another level at both; and lists with that level at one place alone. */
+static void repeated_levels(void)
+{
+    ref_trial t = { 0, 0, 0, { { 0 }, { 0 } }, 0, 0 };
+    for (t.n = 2; t.n <= 6; t.n++)
+        for (uint32_t pair = 0, order = 1u << t.n; pair < 2 * order * order; pair++) {
+            uint32_t list = pair % 2, place = pair / 2 % order, earlier = pair / 2 / order;
+            for (uint32_t i = 0; i < 64; i++)
+                t.levels[0][i] = t.levels[1][i] = (uint16_t)(i * 40503 + 7);
+            count(dw_pair_at(t.n, 0, &t.f, &t.g), 0, "repeated level: pair");
+            if (pair % 3)
+                t.levels[list][earlier] = pair % 3 == 1 ? 0 : 65535;
+            if (earlier < place) {
+                t.levels[list][place] = t.levels[list][earlier];
+                repeated_level(&t, (int)list, place);
+            } else
+                shuffled_levels(&t);
+        }
+}
+
 /* A pointer whose length is 0 may be null, in every call that takes one; a name of length 0 is served. */
 static void null_pointers(void)
 {
@@ -527,6 +622,7 @@ int main(int argc, char **argv)
     part("printed entries", printed_entries, 1, 2, 2, spent);
     part("whole lists", whole_lists, 1, 0, 0, 0);
     part("longest file", longest_file, 1, 15, 15, 0);
+    part("repeated levels", repeated_levels, 1, 14, 14, bit(7) | bit(9));
     part("null pointers", null_pointers, 1, 2, 2, four | bit(9));
     part("kept record", kept_record, 1, 3, 3, spent);
     part("dw_length", try_length, 100 * scale, 1, 1, 0);

@@ -1,4 +1,4 @@
-/* Document 01 once more, written for the test and sharing nothing with the library: slow and plain. */
+/* Document 01, with what has landed of document 02, once more, written for the test and sharing nothing with the library: slow and plain. */
 #ifndef REFERENCE_H
 #define REFERENCE_H
 
@@ -199,6 +199,15 @@ static uint32_t ref_number(const uint8_t *file, size_t length, size_t *at, uint3
     return 10;
 }
 
+/* Whether the level at a place is equal to an earlier one. */
+static int ref_repeated(const uint16_t *levels, size_t place)
+{
+    for (size_t i = 0; i < place; i++)
+        if (levels[i] == levels[place])
+            return 1;
+    return 0;
+}
+
 static uint32_t ref_levels(const uint8_t *file, size_t length, size_t *at, uint32_t count, uint16_t *levels)
 {
     for (uint32_t i = 0; i < count; i++) {
@@ -207,9 +216,9 @@ static uint32_t ref_levels(const uint8_t *file, size_t length, size_t *at, uint3
             return form;
         if (level > 65535)
             return 13;
-        if (i > 0 && level <= levels[i - 1])
-            return 14;
         levels[i] = (uint16_t)level;
+        if (ref_repeated(levels, i))
+            return 14;
     }
     return 0;
 }
@@ -294,7 +303,7 @@ static uint32_t ref_content(const ref_trial *t, const uint8_t *name, const size_
         return 4;
     for (int list = 0; list < 2; list++)
         for (size_t i = 1; i < counts[list]; i++)
-            if (t->levels[list][i] <= t->levels[list][i - 1])
+            if (ref_repeated(t->levels[list], i))
                 return 14;
     if (t->size > 40)
         return 15;

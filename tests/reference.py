@@ -1,7 +1,7 @@
 #!/usr/bin/env python3
 """The values that the crate compare must print, computed another way: polynomials are sets of exponents in the arithmetic, lists of pairs
 are filtered by plain Euclid and sorted by the key that document 01's order gives, sites are worked cell by cell, and trial files are read
-by a reader written from document 01. Run it to make crates/compare/stdout.
+by a reader written from the documents. Run it to make crates/compare/stdout.
 
 With an argument the lists go up to that degree: reference.py 10"""
 import sys
@@ -143,6 +143,7 @@ FILES = [
     bytes.fromhex("01 03 0F 0B 00 01 7F 80 01 FF 7F 80 80 01 81 80 01 FF FF 03 05 09 46 AC 02 AD 02 84 07 A0 9C 01 FE FF 03")
     + b"\x08Line 3 ~",
     bytes.fromhex("01 02 05 07 01 02 03 04 09 C0 3E C1 3E E0 D4 03 00"),
+    bytes.fromhex("01 03 0B 0D AC 02 00 FF FF 03 01 80 08 7F 02 80 01 05 03 FF FF 03 00 83 18 04 80 08 06 02 53 7E"),
 ]
 
 
@@ -170,7 +171,7 @@ def levels_at(file, at, count):
     while len(levels) < count:
         level, at = number_at(file, at)
         must(level < 2**16, 13)
-        must(not levels or levels[-1] < level, 14)
+        must(level not in levels, 14)
         levels.append(level)
     return levels, at
 

@@ -143,8 +143,9 @@ static uint64_t draw(uint64_t below)
 int main(void)
 {
     size_t least = used(nothing), most = 0;
+    /* Levels that fall, with one remainder by 1024: each is looked for among those before it. */
     for (size_t i = 0; i < DW_LEVELS_ROOM; i++)
-        levels[i] = (uint16_t)(65472 + i);
+        levels[i] = (uint16_t)(65535 - 1024 * i);
     memset(name, 'A', sizeof name);
 
     /* Half of the positions are near the end of the list, where pairs have the most quotients. */

@@ -75,6 +75,42 @@ const WIDE: [u8; 44] = [
 // Degree 2, without a name.
 const NAMELESS: [u8; 17] = [1, 2, 5, 7, 1, 2, 3, 4, 9, 192, 62, 193, 62, 224, 212, 3, 0];
 
+// Degree 3, with levels in no order; some have the same remainder by 1024.
+const SHUFFLED: [u8; 32] = [
+    1,
+    3,
+    11,
+    13,
+    172,
+    2,
+    0,
+    255,
+    255,
+    3,
+    1,
+    128,
+    8,
+    127,
+    2,
+    128,
+    1,
+    5,
+    3,
+    255,
+    255,
+    3,
+    0,
+    131,
+    24,
+    4,
+    128,
+    8,
+    6,
+    2,
+    83,
+    126,
+];
+
 fn level(x: u16) -> u64 {
     x as u64
 }
@@ -169,10 +205,13 @@ fn truncations(sum: u64, file: &[u8]) -> u64 {
     reading(total, file)
 }
 
+fn damaged(sum: u64, file: &[u8]) -> u64 {
+    truncations(changes(sum, file), file)
+}
+
 pub fn damaged_sum() -> u64 {
-    let s = truncations(changes(0, &PLAIN), &PLAIN);
-    let s = truncations(changes(s, &WIDE), &WIDE);
-    truncations(changes(s, &NAMELESS), &NAMELESS)
+    let s = damaged(damaged(0, &PLAIN), &WIDE);
+    damaged(damaged(s, &NAMELESS), &SHUFFLED)
 }
 
 // Document 01's file with a name of `size` letters, as far as 64 bytes go.

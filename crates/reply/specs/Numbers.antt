@@ -3,7 +3,7 @@ use Prim.Native.Nat.{ℕ}
 use Rattle.reply.specs.declared.Refusal.{Refusal}
 use Rattle.reply.specs.declared.Refusal.the-variants.{DegreeRange, PositionRange, WalkRecord, SliceLength, SiteRange}
 use Rattle.reply.specs.declared.Refusal.the-variants.{CodeDegree, ConstantTerm, CommonFactor}
-use Rattle.reply.specs.declared.Refusal.the-variants.{FileEnds, NumberForm, Version, SheetDegree, LevelRange, LevelOrder}
+use Rattle.reply.specs.declared.Refusal.the-variants.{FileEnds, NumberForm, Version, SheetDegree, LevelRange, LevelRepeated}
 use Rattle.reply.specs.declared.Refusal.the-variants.{NameLength, NameByte, TrailingBytes}
 
 abbrev pub numberOf : Refusal → ℕ
@@ -33,8 +33,8 @@ numberOf Version = 11
 numberOf SheetDegree = 12
 -- level above 65535 (reader only)
 numberOf LevelRange = 13
--- level not above the one before it
-numberOf LevelOrder = 14
+-- level equal to an earlier one of its list (document 02, request a)
+numberOf LevelRepeated = 14
 -- name longer than 40 bytes
 numberOf NameLength = 15
 -- name byte outside 32 to 126

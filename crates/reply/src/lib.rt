@@ -1,4 +1,4 @@
-// The refusals of document 01 by name, and their numbers. Later requests add variants at the end.
+// The refusals of documents 01 and 02 by name, and their numbers. New ones stand at the end.
 ghost use mathlib.Core.Path.{_≡_};
 ghost use Rattle.reply.specs.Numbers.{numberOf};
 
@@ -19,7 +19,7 @@ pub enum Refusal {
     Version,
     SheetDegree,
     LevelRange,
-    LevelOrder,
+    LevelRepeated,
     NameLength,
     NameByte,
     TrailingBytes,
@@ -44,7 +44,7 @@ impl Refusal {
             Refusal::Version => 11,
             Refusal::SheetDegree => 12,
             Refusal::LevelRange => 13,
-            Refusal::LevelOrder => 14,
+            Refusal::LevelRepeated => 14,
             Refusal::NameLength => 15,
             Refusal::NameByte => 16,
             Refusal::TrailingBytes => 17,

@@ -44,7 +44,7 @@ wrote t room size e =
     record { clear = clear-left (contentCauses t) (roomCauses room (length (encode t))) clear; length-is = cc }
 
 -- With enough room for the levels the reader only parses.
-parses : (powersRoom forcesRoom : ℕ) (file : List ℕ) → 64 ≤ powersRoom → 64 ≤ forcesRoom → read powersRoom forcesRoom file ≡ parse file
+pub parses : (powersRoom forcesRoom : ℕ) (file : List ℕ) → 64 ≤ powersRoom → 64 ≤ forcesRoom → read powersRoom forcesRoom file ≡ parse file
 unfolding read
 parses powersRoom forcesRoom file hp hf = rw (le-ltb powersRoom 64 hp, le-ltb forcesRoom 64 hf)
 

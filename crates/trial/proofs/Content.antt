@@ -6,11 +6,11 @@ use mathlib.Core.List.{[], _∷_}
 use lib.Dec.{eqb}
 use lib.ListN.{length}
 use borrow.Author.Tests.{ltb-false, eqb-true, not-false}
+use Rattle.levels.specs.Levels.{repeats}
 use Rattle.reply.proofs.Order.{NoneApplies}
 use Rattle.poly.specs.Limits.{outside}
 use Rattle.poly.specs.Causes.{codeCauses, commonFactor}
 use Rattle.poly.proofs.Ranges.{neither, Passed, passed-codes}
-use Rattle.trial.specs.Levels.{disordered}
 use Rattle.trial.specs.Trial.{Trial, headCauses}
 use Rattle.trial.specs.Replies.{nameCauses, bodyCauses, contentCauses}
 use Rattle.trial.proofs.Parser.{clear-left, clear-right}
@@ -21,8 +21,8 @@ pub record Sound (t : Trial) : Type 0 where
   pub codes : Passed (t .head .degree) (t .head .f) (t .head .g)
   pub powers-long : length (t .powers) ≡ 2 ^ t .head .degree
   pub forces-long : length (t .forces) ≡ 2 ^ t .head .degree
-  pub powers-ordered : disordered (t .powers) ≡ false
-  pub forces-ordered : disordered (t .forces) ≡ false
+  pub powers-differ : repeats (t .powers) ≡ false
+  pub forces-differ : repeats (t .forces) ≡ false
   pub name : NoneApplies (nameCauses (t .name))
   pub name-short : length (t .name) ≤ 40
 
@@ -39,8 +39,8 @@ sound t clear =
       codes = passed-codes (t .head .degree) (t .head .f) (t .head .g) (commonFactor (t .head .f) (t .head .g) ∷ []) (head .1);
       powers-long = eqb-true (length (t .powers)) order (not-false _ (sizes .0));
       forces-long = eqb-true (length (t .forces)) order (not-false _ (sizes .1));
-      powers-ordered = body .1 .0;
-      forces-ordered = body .1 .1 .0;
+      powers-differ = body .1 .0;
+      forces-differ = body .1 .1 .0;
       name = body .1 .1 .1;
       name-short = ltb-false 40 (length (t .name)) (body .1 .1 .1 .0);
     }

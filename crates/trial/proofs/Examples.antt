@@ -9,11 +9,12 @@ use Rattle.poly.specs.Division.{inverse, bringDown, divide}
 use Rattle.poly.specs.Coprime.{gcd}
 use Rattle.poly.specs.Limits.{outside}
 use Rattle.poly.specs.Causes.{offDegree, codeCauses}
-use Rattle.trial.specs.Parser.{parsed}
+use Rattle.trial.specs.Parser.{parsed, failed}
 use Rattle.trial.specs.Number.{encodeNumber, parseNumber}
 use Rattle.trial.specs.Trial.{Trial, encodeHead, encodeBody, encode, parseCodes, parseHead, parseText, parseName, parseEnd}
-use Rattle.trial.specs.Trial.{parseBody, parse}
+use Rattle.trial.specs.Trial.{parseBody, parseUnder, parse}
 use Rattle.trial.specs.Replies.{contentCauses, read, readReply, writeReply}
+use Rattle.trial.specs.Claims.{document01}
 
 -- Document 01's content, with the degree, the codes, the powers and the name given.
 abbrev content : ℕ → ℕ → ℕ → List ℕ → List ℕ → Trial
@@ -45,6 +46,14 @@ unfolding parse parseHead parseCodes parseBody parseName parseText parseEnd pars
     outside offDegree codeCauses gcd divide bringDown inverse add scale degree
 decoded = refl
 
+-- Under document 01's own rules: its file, two equal powers, powers that fall.
+decoded-before : map (parseUnder document01)
+    (withName (0x01 ∷ 0x41 ∷ []) ∷ (headBytes ++ (0x64 ∷ 0x64 ∷ [])) ∷ (headBytes ++ (0x02 ∷ 0x01 ∷ [])) ∷ [])
+    ≡ parsed (content 2 7 5 rising (0x41 ∷ [])) [] ∷ failed 14 ∷ failed 14 ∷ []
+unfolding parseHead parseCodes parseBody parseName parseText parseEnd parseNumber
+    outside offDegree codeCauses gcd divide bringDown inverse add scale degree
+decoded-before = refl
+
 -- A file, the room for each list of levels, and the reader's reply.
 record Reading : Type 0 where
   file : List ℕ
@@ -58,6 +67,7 @@ abbrev readings : List Reading
 readings =
     reading (withName (0x01 ∷ 0x41 ∷ [])) (served (2 ∷ 7 ∷ 5 ∷ 18 ∷ 1 ∷ []))
     ∷ reading (withName (0x28 ∷ replicate 40 0x41)) (served (2 ∷ 7 ∷ 5 ∷ 18 ∷ 40 ∷ []))
+    ∷ reading (headBytes ++ (0x03 ∷ 0x01 ∷ 0x04 ∷ 0x02 ∷ 0x04 ∷ 0x03 ∷ 0x02 ∷ 0x00 ∷ 0x00 ∷ [])) (served (2 ∷ 7 ∷ 5 ∷ 13 ∷ 0 ∷ []))
     ∷ record { file = []; room = 63; reply = refused 4 }
     ∷ reading (0x01 ∷ 0x02 ∷ 0x08 ∷ []) (refused 6)
     ∷ reading (0x01 ∷ 0x02 ∷ 0x06 ∷ []) (refused 7)
@@ -76,7 +86,9 @@ readings =
     ∷ reading (0x01 ∷ 0x07 ∷ []) (refused 12)
     ∷ reading (headBytes ++ (0x80 ∷ 0x80 ∷ 0x04 ∷ [])) (refused 13)
     ∷ reading (headBytes ++ (0x64 ∷ 0x64 ∷ [])) (refused 14)
-    ∷ reading (headBytes ++ powerBytes ++ (0x02 ∷ 0x01 ∷ [])) (refused 14)
+    ∷ reading (headBytes ++ (0x01 ∷ 0x02 ∷ 0x01 ∷ [])) (refused 14)
+    ∷ reading (headBytes ++ powerBytes ++ (0x02 ∷ 0x01 ∷ [])) (refused 9)
+    ∷ reading (headBytes ++ powerBytes ++ (0x02 ∷ 0x01 ∷ 0x00 ∷ 0x02 ∷ [])) (refused 14)
     ∷ reading (withName (0x29 ∷ [])) (refused 15)
     ∷ reading (withName (0x01 ∷ 0x1F ∷ [])) (refused 16)
     ∷ reading (withName (0x01 ∷ 0x7F ∷ [])) (refused 16)
@@ -109,6 +121,8 @@ writings =
     ∷ writing 2 7 5 (100 ∷ 110 ∷ 120 ∷ []) (0x41 ∷ []) (refused 4)
     ∷ writing 2 7 5 (100 ∷ 110 ∷ 110 ∷ 130 ∷ []) (0x41 ∷ []) (refused 14)
     ∷ writing 2 7 5 (100 ∷ 110 ∷ 110 ∷ 130 ∷ []) (0x41 ∷ 0x42 ∷ []) (refused 14)
+    ∷ writing 2 7 5 (100 ∷ 110 ∷ 120 ∷ 100 ∷ []) (0x41 ∷ []) (refused 14)
+    ∷ writing 2 7 5 (120 ∷ 130 ∷ 100 ∷ 110 ∷ []) (0x41 ∷ []) (served (19 ∷ []))
     ∷ writing 2 7 5 rising (replicate 41 0x41) (refused 15)
     ∷ writing 2 7 5 rising (0x7F ∷ []) (refused 16)
     ∷ writing 2 7 5 rising (0x41 ∷ 0x42 ∷ []) (refused 4)

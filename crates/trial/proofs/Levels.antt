@@ -7,48 +7,51 @@ use mathlib.Core.List.{List, [], _∷_, _++_, reverseAux, append-assoc}
 use native.Mathlib.Omega.{arith}
 use lib.ListN.{length}
 use borrow.Author.Tests.{le-ltb, ltb-false}
+use Rattle.levels.specs.Levels.{anyBarred}
 use Rattle.reply.proofs.Order.{NoneApplies}
 use Rattle.poly.proofs.Ranges.{neither}
 use Rattle.trial.specs.Parser.{parsed}
 use Rattle.trial.specs.Number.{AllBelow, encodeNumber, encodeNumbers}
-use Rattle.trial.specs.Levels.{outOfOrder, anyOutOfOrder, levelCauses, parseLevels}
+use Rattle.trial.specs.Rules.{Rules}
+use Rattle.trial.specs.Levels.{levelCauses, parseLevels}
 use Rattle.trial.proofs.Field.{field-back, with-field}
 
-pub levels-back : (levels before rest : List ℕ) → AllBelow 65536 levels → anyOutOfOrder before levels ≡ false
-    → parseLevels (length levels) before (encodeNumbers levels ++ rest) ≡ parsed (reverseAux before levels) rest
-levels-back [] before rest below ordered = refl
-levels-back (level ∷ levels) before rest below ordered =
-    let o = neither (outOfOrder before level) _ ordered in
+pub levels-back : (rules : Rules) (levels before rest : List ℕ) → AllBelow 65536 levels
+    → anyBarred (rules .barred) before levels ≡ false
+    → parseLevels rules (length levels) before (encodeNumbers levels ++ rest) ≡ parsed (reverseAux before levels) rest
+levels-back rules [] before rest below allowed = refl
+levels-back rules (level ∷ levels) before rest below allowed =
+    let o = neither (rules .barred before level) _ allowed in
     let b = below 0 in
-    let clear : NoneApplies (levelCauses before level) = (le-ltb 65535 level (omega arith), (o .0, tt)) in
-    rw (append-assoc, field-back (levelCauses before) level (encodeNumbers levels ++ rest) (omega arith) clear)
-    (levels-back levels (level ∷ before) rest (λ i. below (suc i)) (o .1))
+    let clear : NoneApplies (levelCauses rules before level) = (le-ltb 65535 level (omega arith), (o .0, tt)) in
+    rw (append-assoc, field-back (levelCauses rules before) level (encodeNumbers levels ++ rest) (omega arith) clear)
+    (levels-back rules levels (level ∷ before) rest (λ i. below (suc i)) (o .1))
 
 -- These levels were read behind those before.
-pub record LevelsRead (count : ℕ) (before bytes levels rest : List ℕ) : Type 0 where
+pub record LevelsRead (rules : Rules) (count : ℕ) (before bytes levels rest : List ℕ) : Type 0 where
   pub fresh : List ℕ
   pub whole : reverseAux before fresh ≡ levels
   pub size : length fresh ≡ count
-  pub ordered : anyOutOfOrder before fresh ≡ false
+  pub allowed : anyBarred (rules .barred) before fresh ≡ false
   pub low : AllBelow 65536 fresh
   pub same : encodeNumbers fresh ++ rest ≡ bytes
 
-pub levels-same : (count : ℕ) (before bytes : List ℕ) {levels rest : List ℕ} → AllBelow 256 bytes
-    → parseLevels count before bytes ≡ parsed levels rest → LevelsRead count before bytes levels rest
-levels-same zero before bytes {levels} {rest} below e =
-    record { fresh = []; whole = cc; size = refl; ordered = refl; low = λ i. omega arith; same = cc }
-levels-same (suc count) before bytes {levels} {rest} below e =
-    with-field (levelCauses before) (λ level. parseLevels count (level ∷ before)) bytes below e λ level bytes′ clear same below′ e′.
-    behind level bytes′ clear same (levels-same count (level ∷ before) bytes′ below′ e′)
+pub levels-same : (rules : Rules) (count : ℕ) (before bytes : List ℕ) {levels rest : List ℕ} → AllBelow 256 bytes
+    → parseLevels rules count before bytes ≡ parsed levels rest → LevelsRead rules count before bytes levels rest
+levels-same rules zero before bytes {levels} {rest} below e =
+    record { fresh = []; whole = cc; size = refl; allowed = refl; low = λ i. omega arith; same = cc }
+levels-same rules (suc count) before bytes {levels} {rest} below e =
+    with-field (levelCauses rules before) _ bytes below e λ level bytes′ clear same below′ e′.
+    behind level bytes′ clear same (levels-same rules count (level ∷ before) bytes′ below′ e′)
   where
-    behind : (level : ℕ) (bytes′ : List ℕ) → NoneApplies (levelCauses before level) → encodeNumber level ++ bytes′ ≡ bytes
-        → LevelsRead count (level ∷ before) bytes′ levels rest → LevelsRead (suc count) before bytes levels rest
+    behind : (level : ℕ) (bytes′ : List ℕ) → NoneApplies (levelCauses rules before level) → encodeNumber level ++ bytes′ ≡ bytes
+        → LevelsRead rules count (level ∷ before) bytes′ levels rest → LevelsRead rules (suc count) before bytes levels rest
     behind level bytes′ clear same t =
         record {
           fresh = level ∷ t .fresh;
           whole = t .whole;
           size = ap suc (t .size);
-          ordered = rw (clear .1 .0) (t .ordered);
+          allowed = rw (clear .1 .0) (t .allowed);
           low = elim [ zero ↦ omega (arith, ltb-false 65535 level (clear .0)) | suc i ↦ t .low i ];
           same = rw (append-assoc, t .same) same;
         }

@@ -5,8 +5,8 @@ pub mod Order
 pub mod Number
 pub mod Field
 pub mod Levels
-pub mod Apart
 pub mod Content
 pub mod Trial
 pub mod Room
 pub mod Codec
+pub mod Still

@@ -10,13 +10,15 @@ use lib.Seq.{take-length, drop-length, length-take-le}
 use lib.Pow.{pow-mono}
 use lib.Dec.{ltb, leb, eqb}
 use borrow.Author.Tests.{le-ltb, ltb-false, leb-false, eqb-true, eq-eqb, not-false}
+use Rattle.levels.specs.Levels.{repeats}
 use Rattle.reply.specs.Reply.{_gives_}
 use Rattle.reply.proofs.Order.{NoneApplies}
 use Rattle.poly.specs.Causes.{offDegree, codeCauses}
 use Rattle.poly.proofs.Ranges.{within, neither}
 use Rattle.trial.specs.Parser.{parsed, pure, _>>=_}
 use Rattle.trial.specs.Number.{AllBelow, encodeNumber, encodeNumbers}
-use Rattle.trial.specs.Levels.{disordered, parseLevels}
+use Rattle.trial.specs.Rules.{today}
+use Rattle.trial.specs.Levels.{parseLevels}
 use Rattle.trial.specs.Trial.{Head, Trial, version, encodeHead, encodeBody, encode, versionCauses, degreeCauses, pairCauses}
 use Rattle.trial.specs.Trial.{headCauses, sizeCauses, textCauses, anyUnprintable, parseCodes, parseHead, parseText, parseName}
 use Rattle.trial.specs.Trial.{parseEnd, parseBody, parse}
@@ -104,9 +106,9 @@ last-same bytes {name} {rest} below e =
     rw name-is (record { clear = (rw whole (c .0), (t .0 .1 .0, tt)); same = rw (whole, all) s })
 
 -- A list of levels, of the length asked, is read back.
-list-back : (count : ℕ) (levels rest : List ℕ) → length levels ≡ count → AllBelow 65536 levels → disordered levels ≡ false
-    → parseLevels count [] (encodeNumbers levels ++ rest) ≡ parsed levels rest
-list-back count levels rest long low ordered = rw long at (levels-back levels [] rest low ordered)
+list-back : (count : ℕ) (levels rest : List ℕ) → length levels ≡ count → AllBelow 65536 levels → repeats levels ≡ false
+    → parseLevels today count [] (encodeNumbers levels ++ rest) ≡ parsed levels rest
+list-back count levels rest long low differ = rw long at (levels-back today levels [] rest low differ)
 
 -- What the writer accepts is read back.
 pub trial-back : (t : Trial) → AllBelow 65536 (t .powers) → AllBelow 65536 (t .forces) → NoneApplies (contentCauses t)
@@ -120,8 +122,8 @@ trial-back t low-powers low-forces clear =
     simp append-assoc
     (rw (
       head-back (t .head) (encodeNumbers (t .powers) ++ forces-bytes) (s .head),
-      list-back order (t .powers) forces-bytes (s .powers-long) low-powers (s .powers-ordered),
-      list-back order (t .forces) name-bytes (s .forces-long) low-forces (s .forces-ordered),
+      list-back order (t .powers) forces-bytes (s .powers-long) low-powers (s .powers-differ),
+      list-back order (t .forces) name-bytes (s .forces-long) low-forces (s .forces-differ),
       last-back (t .name) (s .name),
     ))
 
@@ -129,14 +131,14 @@ trial-back t low-powers low-forces clear =
 record ListRead (count : ℕ) (bytes levels rest : List ℕ) : Type 0 where
   size : not (eqb (length levels) count) ≡ false
   low : AllBelow 65536 levels
-  ordered : disordered levels ≡ false
+  differ : repeats levels ≡ false
   same : encodeNumbers levels ++ rest ≡ bytes
 
-list-same : (count : ℕ) (bytes : List ℕ) {levels rest : List ℕ} → AllBelow 256 bytes → parseLevels count [] bytes ≡ parsed levels rest
+list-same : (count : ℕ) (bytes : List ℕ) {levels rest : List ℕ} → AllBelow 256 bytes → parseLevels today count [] bytes ≡ parsed levels rest
     → ListRead count bytes levels rest
 list-same count bytes {levels} {rest} below e =
-    let r = levels-same count [] bytes below e in
-    rw (← r .whole) (record { size = rw (eq-eqb (length (r .fresh)) count (r .size)); low = r .low; ordered = r .ordered; same = r .same })
+    let r = levels-same today count [] bytes below e in
+    rw (← r .whole) (record { size = rw (eq-eqb (length (r .fresh)) count (r .size)); low = r .low; differ = r .allowed; same = r .same })
 
 -- A file is accepted as the encoding of a content that the writer accepts.
 pub record Accepted (file : List ℕ) (t : Trial) : Type 0 where
@@ -148,13 +150,13 @@ pub record Accepted (file : List ℕ) (t : Trial) : Type 0 where
 pub trial-same : (file : List ℕ) {t : Trial} {rest : List ℕ} → AllBelow 256 file → parse file ≡ parsed t rest → Accepted file t
 unfolding contentCauses encode encodeBody parse parseBody
 trial-same file {t} {rest} below e =
-    with-parsed parseHead parseBody file e λ head r₁ h e₁.
+    with-parsed parseHead (parseBody today) file e λ head r₁ h e₁.
     let hs = head-same file below h in
     let b₁ = below-rest (encodeHead head) r₁ file (hs .same) below in
-    with-parsed (parseLevels (2 ^ head .degree) []) _ r₁ e₁ λ powers r₂ p e₂.
+    with-parsed (parseLevels today (2 ^ head .degree) []) _ r₁ e₁ λ powers r₂ p e₂.
     let ps = list-same (2 ^ head .degree) r₁ b₁ p in
     let b₂ = below-rest (encodeNumbers powers) r₂ r₁ (ps .same) b₁ in
-    with-parsed (parseLevels (2 ^ head .degree) []) _ r₂ e₂ λ forces r₃ q e₃.
+    with-parsed (parseLevels today (2 ^ head .degree) []) _ r₂ e₂ λ forces r₃ q e₃.
     let fs = list-same (2 ^ head .degree) r₂ b₂ q in
     let b₃ = below-rest (encodeNumbers forces) r₃ r₂ (fs .same) b₂ in
     with-parsed (parseName >>= parseEnd) _ r₃ e₃ λ name r₅ l e₅.
@@ -167,6 +169,6 @@ trial-same file {t} {rest} below e =
       low-forces = fs .low;
       clear =
           clear-append (headCauses head) (bodyCauses content) (hs .clear)
-          (rw (ps .size) (fs .size), (ps .ordered, (fs .ordered, ns .clear)));
+          (rw (ps .size) (fs .size), (ps .differ, (fs .differ, ns .clear)));
       same = simp append-assoc (rw (ns .same, fs .same, ps .same) (hs .same));
     })

@@ -4,9 +4,11 @@ use Prim.Native.Nat.{ℕ, _-_, _≤_}
 use mathlib.Core.List.{List, [], _∷_}
 use lib.ListN.{length, take}
 use Rattle.reply.specs.Reply.{served}
+use Rattle.levels.specs.Levels.{notAbove}
+use Rattle.trial.specs.Rules.{Rules}
 use Rattle.trial.specs.Parser.{parsed}
 use Rattle.trial.specs.Number.{AllBelow}
-use Rattle.trial.specs.Trial.{Trial, parse}
+use Rattle.trial.specs.Trial.{Trial, parseUnder, parse}
 use Rattle.trial.specs.Replies.{read, readReply, nameRead, over, levelsAfter, writeReply, fileAfter}
 
 pub record WrittenAgain (file : List ℕ) (t : Trial) (out : List ℕ) : Type 0 where
@@ -46,3 +48,13 @@ pub record RoomClaim : Type 0 where
       → writeReply t room ≡ served (size ∷ []) → size ≤ fileRoom
   pub accepted : (powersRoom forcesRoom : ℕ) (file : List ℕ) (t : Trial) (rest : List ℕ) → AllBelow 256 file
       → read powersRoom forcesRoom file ≡ parsed t rest → length file ≤ fileRoom
+
+-- Document 01's own rules: a level not above the one before it may not follow.
+abbrev pub document01 : Rules
+document01 = record { barred = notAbove }
+
+-- Files accepted before are still accepted: what document 01's rules let pass, the reader accepts with the same content.
+abbrev pub StillClaim : Type 0
+StillClaim =
+    (file : List ℕ) (t : Trial) (rest : List ℕ) → parseUnder document01 file ≡ parsed t rest
+    → (powersRoom forcesRoom : ℕ) → 64 ≤ powersRoom → 64 ≤ forcesRoom → read powersRoom forcesRoom file ≡ parsed t rest

@@ -1,3 +1,4 @@
+pub mod Rules
 pub mod Parser
 pub mod Number
 pub mod Levels

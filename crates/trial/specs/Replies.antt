@@ -4,9 +4,9 @@ use mathlib.Core.Bool.{not, _||_}
 use mathlib.Core.List.{List, [], _∷_, _++_}
 use lib.Dec.{ltb, eqb}
 use lib.ListN.{length, drop}
+use Rattle.levels.specs.Levels.{repeats}
 use Rattle.reply.specs.Reply.{Reply, served, refused, Cause, _gives_, unless, after}
 use Rattle.trial.specs.Parser.{Parsed, parsed, failed, Parser, barring}
-use Rattle.trial.specs.Levels.{disordered}
 use Rattle.trial.specs.Trial.{Trial, encode, headCauses, sizeCauses, anyUnprintable, parse}
 
 -- The reader's decision. 4 comes first: a slice lent for the levels is shorter than 64.
@@ -33,12 +33,13 @@ abbrev pub levelsAfter : (Trial → List ℕ) → Parsed Trial → List ℕ → 
 levelsAfter list (parsed trial rest) slice = over (list trial) slice
 levelsAfter list (failed number) slice = slice
 
--- 4: a list of levels is not of the length that the degree asks; 14 for the powers, then 14 for the forces: out of order.
+-- 4: a list of levels is not of the length that the degree asks; 14 for the powers, then 14 for the forces: a level is equal to an earlier
+-- one of its list.
 abbrev pub listCauses : ℕ → List ℕ → List ℕ → List Cause
 listCauses order powers forces =
     (not (eqb (length powers) order) || not (eqb (length forces) order)) gives 4
-    ∷ disordered powers gives 14
-    ∷ disordered forces gives 14
+    ∷ repeats powers gives 14
+    ∷ repeats forces gives 14
     ∷ []
 
 -- 15: too long; 16: a byte outside 32 to 126.

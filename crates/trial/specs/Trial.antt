@@ -7,6 +7,7 @@ use lib.ListN.{length, take, drop}
 use Rattle.reply.specs.Reply.{Cause, _gives_}
 use Rattle.poly.specs.Limits.{outside}
 use Rattle.poly.specs.Causes.{sheetDegreeCause, codeCauses, commonFactor}
+use Rattle.trial.specs.Rules.{Rules, today}
 use Rattle.trial.specs.Parser.{parsed, Parser, pure, _>>=_, barring}
 use Rattle.trial.specs.Number.{encodeNumber, encodeNumbers, field}
 use Rattle.trial.specs.Levels.{parseLevels}
@@ -93,12 +94,16 @@ unfoldable pub parseEnd : List ℕ → Parser (List ℕ)
 parseEnd name rest = barring (ltb 0 (length rest) gives 17 ∷ []) (pure name) rest
 
 -- The lists and the name, behind the head.
-unfoldable pub parseBody : Head → Parser Trial
-parseBody head =
-    parseLevels (2 ^ head .degree) [] >>= λ powers.
-    parseLevels (2 ^ head .degree) [] >>= λ forces.
+unfoldable pub parseBody : Rules → Head → Parser Trial
+parseBody rules head =
+    parseLevels rules (2 ^ head .degree) [] >>= λ powers.
+    parseLevels rules (2 ^ head .degree) [] >>= λ forces.
     parseName >>= parseEnd >>= λ name.
     pure (record { head = head; powers = powers; forces = forces; name = name })
 
+-- A whole file, under any rules and under today's.
+abbrev pub parseUnder : Rules → Parser Trial
+parseUnder rules = parseHead >>= parseBody rules
+
 unfoldable pub parse : Parser Trial
-parse = parseHead >>= parseBody
+parse = parseUnder today

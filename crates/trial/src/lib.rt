@@ -1,4 +1,4 @@
-// The format of trial files (document 01, "Trial file"), and the one test that its reader and its writer share.
+// The format of trial files (document 01, "Trial file"), and the test of a name, which its reader and its writer share.
 ghost use mathlib.Core.Path.{_≡_};
 ghost use mathlib.Core.Bool.{not};
 ghost use Rattle.trial.specs.Trial.{anyUnprintable};

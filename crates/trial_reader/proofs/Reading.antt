@@ -7,14 +7,13 @@ use native.Mathlib.Omega.{arith}
 use lib.ListN.{length, take, drop, length-drop}
 use lib.Seq.{length-take-le}
 use lib.Dec.{ltb}
-use borrow.Author.Tests.{lt-ltb, le-ltb}
+use borrow.Author.Tests.{lt-ltb}
 use Rattle.reply.specs.Numbers.{numberOf}
 use Rattle.reply.specs.declared.Refusal.{Refusal}
 use Rattle.trial_reader.specs.declared.reader.Layout.{Layout}
 use Rattle.trial_reader.specs.declared.reader.Verdict.the-variants.{Accepted}
 use Rattle.trial_reader.specs.declared.reader.ReadTrial.the-variants.{Content, Refused as Unreadable}
 use Rattle.trial.specs.Parser.{parsed, failed}
-use Rattle.trial.specs.Trial.{parse}
 use Rattle.trial.specs.Replies.{read, over}
 use Rattle.trial_reader.specs.Inner.{contentOf, TrialInside}
 use Rattle.trial_reader.specs.Answers.{ReadDone}
@@ -27,10 +26,6 @@ module _ (file : List ℕ) (p q : ℕ) where
   pub short-forces : q < 64 → read p q file ≡ failed 4
   unfolding read
   short-forces h = rw (lt-ltb q 64 h, or-true (ltb p 64))
-
-  pub room-enough : 64 ≤ p → 64 ≤ q → read p q file ≡ parse file
-  unfolding read
-  room-enough h h′ = rw (le-ltb p 64 h, le-ltb q 64 h′)
 
 module _ {file powers forces : List ℕ} where
   pub refused-done : {why : Refusal} → read (length powers) (length forces) file ≡ failed (numberOf why)

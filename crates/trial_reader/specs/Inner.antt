@@ -2,13 +2,16 @@
 -- standing for the bytes from there on.
 use mathlib.Core.Path.{_≡_}
 use Prim.Native.Nat.{ℕ, _+_, _≤_}
+use mathlib.Core.Bool.{cond}
 use mathlib.Core.List.{List, []}
 use lib.ListN.{length, take, drop}
+use Rattle.levels.specs.Levels.{repeats}
 use Rattle.reply.specs.Numbers.{numberOf}
 use Rattle.trial_reader.specs.declared.numbers.ReadNumber.{ReadNumber}
 use Rattle.trial_reader.specs.declared.numbers.ReadNumber.the-variants.{Value, Refused}
 use Rattle.trial_reader.specs.declared.lists.Behind.{Behind}
 use Rattle.trial_reader.specs.declared.lists.Behind.the-variants.{At, Refused as Impassable}
+use Rattle.trial_reader.specs.declared.lists.Decoded.{Decoded}
 use Rattle.trial_reader.specs.declared.fields.Head.{Head as CodeHead}
 use Rattle.trial_reader.specs.declared.fields.ReadHead.{ReadHead}
 use Rattle.trial_reader.specs.declared.fields.ReadHead.the-variants.{Found, Refused as Unread}
@@ -19,6 +22,7 @@ use Rattle.trial_reader.specs.declared.reader.Verdict.{Verdict}
 use Rattle.trial_reader.specs.declared.reader.Verdict.the-variants.{Accepted, Refused as Unaccepted}
 use Rattle.trial.specs.Parser.{Parsed, parsed, failed, Parser, _>>=_, checked}
 use Rattle.trial.specs.Number.{above, parseGroups, ceilingCauses}
+use Rattle.trial.specs.Rules.{today}
 use Rattle.trial.specs.Levels.{parseLevels}
 use Rattle.trial.specs.Trial.{Head, Trial, parseName, parseEnd}
 
@@ -69,8 +73,16 @@ ListInside file (Impassable why) = Unit
 
 -- The answer, with the slice afterwards, is what the parser of so many levels gives at the position.
 pub record ListRead (file : List ℕ) (at count : ℕ) (r : Behind) (out : List ℕ) : Type 0 where
-  pub says : listParsed file count out r ≡ parseLevels count [] (drop at file)
+  pub says : listParsed file count out r ≡ parseLevels today count [] (drop at file)
   pub inside : ListInside file r
+
+-- The levels at the front of the slice, as many as were read, decide first: the parser refuses by 14 where one is equal to an earlier one.
+-- Where they differ, the answer is the parser's.
+pub record Decodes (file : List ℕ) (at count : ℕ) (r : Decoded) (out : List ℕ) : Type 0 where
+  pub few : r .read ≤ length out
+  pub says : cond (repeats (take (r .read) out)) (failed 14) (listParsed file count out (r .behind))
+      ≡ parseLevels today count [] (drop at file)
+  pub inside : ListInside file (r .behind)
 
 -- The name and that nothing stands behind it.
 abbrev pub nameParsed : List ℕ → ReadName → Parsed (List ℕ)

@@ -1,12 +1,13 @@
 // Lists of levels.
 use crate::numbers::ReadNumber;
 use crate::numbers::read_number;
+use levels::distinct;
 use reply::Refusal;
 ghost use mathlib.Core.Path.{_≡_};
 ghost use Prim.Native.Nat.{_≤_};
 ghost use lib.ListN.{length, take};
 ghost use Rattle.trial.specs.Replies.{over};
-ghost use Rattle.trial_reader.specs.Inner.{ListRead};
+ghost use Rattle.trial_reader.specs.Inner.{Decodes, ListRead};
 
 // The position behind a list of levels, or what it is refused for.
 pub(crate) enum Behind {
@@ -14,32 +15,58 @@ pub(crate) enum Behind {
     Refused(Refusal),
 }
 
-// Reads so many levels at a position of the file to the front of `out`; where they are refused, some may be there already.
-pub(crate) fn read_levels(file: &[u8], at: usize, count: usize, out: &mut [u16]) -> Behind
+// How many levels were read, and the position behind all that were asked for or what the next one is refused for.
+struct Decoded {
+    read: usize,
+    behind: Behind,
+}
+
+// Reads so many levels at a position of the file to the front of `out`, whether or not they differ: they are compared afterwards, all at
+// once, by the test that the writer uses too.
+fn decode_levels(file: &[u8], at: usize, count: usize, out: &mut [u16]) -> Decoded
     requires { ⌜ (at ≤ length (now file)) × (count ≤ length (now out)) ⌝ }
-    ensures { λ r. ⌜ ListRead (now (file .entry)) at count r (now (out .exit)) ⌝ }
+    ensures { λ r. ⌜ Decodes (now (file .entry)) at count r (now (out .exit)) ⌝ }
 {
     let mut next = at;
-    let mut least: u32 = 0;
     let mut i: usize = 0;
     while i < count {
         match read_number(file, next) {
-            ReadNumber::Refused(why) => return Behind::Refused(why),
-            ReadNumber::Value(level, behind) => {
+            ReadNumber::Refused(why) => {
+                return Decoded {
+                    read: i,
+                    behind: Behind::Refused(why),
+                };
+            }
+            ReadNumber::Value(level, after) => {
                 if 65535 < level {
-                    return Behind::Refused(Refusal::LevelRange);
-                }
-                if level < least {
-                    return Behind::Refused(Refusal::LevelOrder);
+                    return Decoded {
+                        read: i,
+                        behind: Behind::Refused(Refusal::LevelRange),
+                    };
                 }
                 out[i] = level as u16;
-                least = level + 1;
-                next = behind;
+                next = after;
             }
         }
         i += 1;
     }
-    Behind::At(next)
+    Decoded {
+        read: i,
+        behind: Behind::At(next),
+    }
+}
+
+// Reads so many levels at a position of the file to the front of `out`; where they are refused, some may be there already. A level equal to
+// an earlier one is refused before what stopped the reading, which stands behind it.
+pub(crate) fn read_levels(file: &[u8], at: usize, count: usize, out: &mut [u16]) -> Behind
+    requires { ⌜ (at ≤ length (now file)) × (count ≤ length (now out)) ⌝ }
+    ensures { λ r. ⌜ ListRead (now (file .entry)) at count r (now (out .exit)) ⌝ }
+{
+    let decoded = decode_levels(file, at, count, out);
+    if !distinct(&out[..decoded.read]) {
+        return Behind::Refused(Refusal::LevelRepeated);
+    }
+    decoded.behind
 }
 
 // Copies so many levels to the front of `out`.

@@ -14,6 +14,7 @@ use reply::Refusal;
 ghost use mathlib.Core.Path.{_≡_};
 ghost use Prim.Native.Nat.{_^_, _≤_};
 ghost use lib.ListN.{length};
+ghost use Rattle.trial.specs.Rules.{today};
 ghost use Rattle.trial.specs.Trial.{parseBody, parse};
 ghost use Rattle.trial_reader.specs.Inner.{headOf, Surveys};
 ghost use Rattle.trial_reader.specs.Answers.{ReadDone, namePart, Opens};
@@ -59,7 +60,7 @@ fn survey_body(
 ) -> Verdict
     requires { ⌜ (count ≡ 2 ^ head .degree) × (count ≤ 64) × (at ≤ length (now file)) ⌝ }
     requires { ⌜ (64 ≤ length (now powers)) × (64 ≤ length (now forces)) ⌝ }
-    ensures { λ r. ⌜ Surveys (parseBody (headOf head)) (now (file .entry)) at r (now (powers .exit)) (now (forces .exit)) ⌝ }
+    ensures { λ r. ⌜ Surveys (parseBody today (headOf head)) (now (file .entry)) at r (now (powers .exit)) (now (forces .exit)) ⌝ }
 {
     match read_levels(file, at, count, powers) {
         Behind::Refused(why) => Verdict::Refused(why),

@@ -2,32 +2,15 @@
 use crate::numbers::put_number;
 use crate::numbers::width;
 ghost use mathlib.Core.Path.{_≡_};
-ghost use mathlib.Core.Bool.{not};
 ghost use Prim.Native.Nat.{_+_, _≤_};
 ghost use lib.ListN.{length};
 ghost use Rattle.trial.specs.Number.{encodeNumbers};
-ghost use Rattle.trial.specs.Levels.{disordered};
 ghost use Rattle.trial_writer.specs.Inner.{Puts};
 
 fn wide(level: u16) -> u32
     ensures { λ r. ⌜ r ≡ level ⌝ }
 {
     level as u32
-}
-
-// Whether the levels are in order. It goes on behind a level that is not, so that several can be compared at once.
-pub(crate) fn ordered(levels: &[u16]) -> bool
-    ensures { λ r. ⌜ r ≡ not (disordered (now (levels .entry))) ⌝ }
-{
-    let mut good = true;
-    let mut i: usize = 1;
-    while i < levels.len() {
-        if levels[i] <= levels[i - 1] {
-            good = false;
-        }
-        i += 1;
-    }
-    good
 }
 
 // How many bytes the levels take.

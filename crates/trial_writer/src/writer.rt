@@ -1,11 +1,11 @@
 // The writer. It makes its whole decision before it puts a byte, so that a refusal leaves the slice as it was.
 use crate::lists::levels_width;
-use crate::lists::ordered;
 use crate::lists::put_levels;
 use crate::names::put_name;
 use crate::numbers::put_number;
 use crate::numbers::width;
 use euclid::check_coprime;
+use levels::distinct;
 use poly::Checked;
 use poly::Count;
 use poly::Degree;
@@ -42,11 +42,11 @@ fn check_lists(count: usize, powers: &[u16], forces: &[u16]) -> Checked
     if forces.len() != count {
         return Checked::Refused(Refusal::SliceLength);
     }
-    if !ordered(powers) {
-        return Checked::Refused(Refusal::LevelOrder);
+    if !distinct(powers) {
+        return Checked::Refused(Refusal::LevelRepeated);
     }
-    if !ordered(forces) {
-        return Checked::Refused(Refusal::LevelOrder);
+    if !distinct(forces) {
+        return Checked::Refused(Refusal::LevelRepeated);
     }
     Checked::Passed
 }

@@ -1,131 +1,36 @@
--- `read_levels` meets its contract: the levels passed are as they should be and at the front of the slice, and `least` is what may follow.
-use mathlib.Core.Path.{_≡_, refl, sym, ap, _∙_}
-use mathlib.Core.List.{[]}
-use Prim.Native.Nat.{ℕ, _-_}
-use native.Mathlib.Omega.{arith}
+-- `read_levels` meets its contract: where a level read is equal to an earlier one the parser refuses by 14, and else the answer is its.
+use mathlib.Core.Path.{sym}
+use lib.Seq.{length-take-le}
 use borrow.Author.Needs.{needs}
-use borrow.Author.Tests.{lt-ltb, le-ltb}
-use lib.ListN.{drop}
-use lib.Dec.{ltb}
-use Rattle.trial.specs.Parser.{parsed}
-use Rattle.trial.specs.Number.{number}
-use Rattle.trial.specs.Levels.{outOfOrder}
-use Rattle.trial_reader.proofs.Told.{value-told, inside-told, refusal-told}
-use Rattle.trial_reader.proofs.Passes.{Storing, none-passed, no-number, too-high, disorder, one-passed, order-least}
-use Rattle.trial_reader.proofs.Passes.{all-stored, one-stored}
+use Rattle.trial.proofs.Flags.{denied, upheld}
+use Rattle.trial_reader.proofs.Told.{repeats-told, differ-told}
 use Rattle.trial_reader.proofs.lists.read_levels.Statement.{statement}
 use Rattle.trial_reader.proofs.lists.read_levels.Tie as tie
 
-abbrev Inv-loop : tie.InvT-loop
-Inv-loop file at count out₀ next₀ least₀ i₀ out next least i = Storing file at count out₀ out next least i
+slice-aggregate-distinct : tie.Need-slice-aggregate-distinct
+slice-aggregate-distinct c =
+    let decoded = c .before .before .before .decode-levels in
+    sym (length-take-le (decoded .result .read) _ (decoded .ensures .few))
 
-abbrev μ-loop : tie.MeasureT-loop
-μ-loop file at count out₀ next₀ least₀ i₀ out next least i = count - i
-
-loop-holds : tie.Need-loop-holds Inv-loop μ-loop
-loop-holds c =
-    let a = c .before .before .args in
-    record {
-      before = [];
-      passed = none-passed (a .file .now) (a .at) (a .count);
-      stored = refl;
-      kept = refl;
-      floor-is = refl;
-      inside = c .before .before .pre .0;
-    }
-
-returns : tie.Need-returns Inv-loop μ-loop
+returns : tie.Need-returns
 returns c =
-    let a = c .before .before .before .before .before .before .before .before .args in
-    let s = c .before .before .before .before .before .loop in
-    let e = refusal-told number (a .file .now) (s .next) (c .before .before .before .read-number .ensures) (c .before .why .given .1) in
-    record { says = rw (no-number (s .inv .passed) (c .before .before .before .before .loop-test .taken) _ e); inside = tt }
+    let at = c .before .before .before .before .before in
+    repeats-told (at .decode-levels .ensures) (denied (c .before .distinct .result) _ (c .before .distinct .ensures) (c .if1 .taken))
 
--- A turn in which a number was read: the function's entry, the loop's head, its test, and what the number says.
-module _ (c : tie.After-level Inv-loop μ-loop) where
-  abbrev entry : tie.Start Inv-loop μ-loop
-  entry = c .before .before .before .before .before .before .before
-
-  abbrev head : tie.At-loop Inv-loop μ-loop
-  head = c .before .before .before .before
-
-  abbrev turn : tie.In-loop Inv-loop μ-loop
-  turn = c .before .before .before
-
-  abbrev level : ℕ
-  level = c .level .given .0 .0
-
-  level-told : number (drop (head .loop .next) (entry .args .file .now))
-      ≡ parsed level (drop (c .level .given .0 .1 .0) (entry .args .file .now))
-  level-told = value-told number (entry .args .file .now) (head .loop .next) (c .before .before .read-number .ensures) (c .level .given .1)
-
-  order-told : outOfOrder (head .loop .inv .before) level ≡ ltb level (head .loop .least)
-  order-told = order-least (head .loop .inv .before) level ∙ ap (ltb level) (sym (head .loop .inv .floor-is))
-
-returns-2 : tie.Need-returns-2 Inv-loop μ-loop
+returns-2 : tie.Need-returns-2
 returns-2 c =
-    let at = c .before .before in
-    let passed = head at .loop .inv .passed in
-    record { says = rw (too-high passed (turn at .loop-test .taken) (level-told at) (c .if1 .taken)); inside = tt }
-
-returns-3 : tie.Need-returns-3 Inv-loop μ-loop
-returns-3 c =
-    let at = c .before .before .before in
-    let passed = head at .loop .inv .passed in
-    let wrong = order-told at ∙ lt-ltb _ _ (c .if2 .taken) in
-    record { says = rw (disorder passed (turn at .loop-test .taken) (level-told at) (c .before .if1 .left) wrong); inside = tt }
-
-mul-out : tie.Need-mul-out Inv-loop μ-loop
-mul-out c = let start = entry (c .before .before .before) in omega (arith, start .pre .1, start .good)
-
-slice-write-out : tie.Need-slice-write-out Inv-loop μ-loop
-slice-write-out c = let at = c .before .before .before in omega (arith, entry at .pre .1, head at .loop .inv .kept)
-
-add-least : tie.Need-add-least Inv-loop μ-loop
-add-least c = omega (arith, c .before .if1 .left)
-
-add-i : tie.Need-add-i Inv-loop μ-loop
-add-i c = omega arith
-
-loop-less : tie.Need-loop-less Inv-loop μ-loop
-loop-less c = omega arith
-
-loop-again : tie.Need-loop-again Inv-loop μ-loop
-loop-again c =
-    let at = c .before .before .before in
-    let s = head at .loop in
-    let right = order-told at ∙ le-ltb _ _ (c .if2 .left) in
-    one-stored (s .inv) (level at) _ (omega (arith, entry at .pre .1))
-    (one-passed (s .inv .passed) (turn at .loop-test .taken) (level at) _ (level-told at) (c .before .if1 .left) right)
-    (inside-told number (entry at .args .file .now) (s .next) (at .before .before .read-number .ensures) (at .level .given .1))
-
-returns-4 : tie.Need-returns-4 Inv-loop μ-loop
-returns-4 c =
-    let s = c .before .loop .inv in
-    record { says = all-stored s (c .loop-test .left); inside = s .inside }
+    let at = c .before .before .before .before .before in
+    differ-told (at .decode-levels .ensures) (upheld (c .before .distinct .result) _ (c .before .distinct .ensures) (c .if1 .left))
 
 pub read-levels-spec : {M : Type 1} → statement M
 read-levels-spec =
     tie.close
     (tie.spec
-    Inv-loop
-    μ-loop
-    loop-holds
     (λ c κs. search needs)
     (λ c. search needs)
-    (λ c. c .before .before .before .before .before .loop .inv .kept)
+    slice-aggregate-distinct
+    (λ c κs. search needs)
+    (λ c. search needs)
     returns
     (λ c. search needs)
-    (λ c. c .before .before .before .before .before .before .loop .inv .kept)
-    returns-2
-    (λ c. c .before .before .before .before .before .before .before .loop .inv .kept)
-    returns-3
-    (λ c. search needs)
-    mul-out
-    slice-write-out
-    add-least
-    add-i
-    loop-less
-    loop-again
-    (λ c. c .before .loop .inv .kept)
-    returns-4)
+    returns-2)

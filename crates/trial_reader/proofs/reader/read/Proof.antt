@@ -5,8 +5,9 @@ use lib.ListN.{length}
 use Rattle.trial_reader.specs.declared.reader.Verdict.the-variants.{Accepted}
 use Rattle.trial.specs.Trial.{parse}
 use Rattle.trial.specs.Replies.{read}
+use Rattle.trial.proofs.Codec.{parses}
 use Rattle.trial_reader.specs.Inner.{Surveys}
-use Rattle.trial_reader.proofs.Reading.{short-powers, short-forces, room-enough, refused-done, accepted-done}
+use Rattle.trial_reader.proofs.Reading.{short-powers, short-forces, refused-done, accepted-done}
 use borrow.Author.Needs.{needs}
 use Rattle.trial_reader.proofs.reader.read.Statement.{statement}
 use Rattle.trial_reader.proofs.reader.read.Tie as tie
@@ -30,7 +31,7 @@ room : (c : tie.After-survey) →
     read (length (a .powers .now)) (length (a .forces .now)) (a .file .now) ≡ parse (a .file .now)
 room c =
     let a = entry c .args in
-    room-enough (a .file .now) (length (a .powers .now)) (length (a .forces .now))
+    parses (length (a .powers .now)) (length (a .forces .now)) (a .file .now)
     (c .before .before .before .before .if1 .left) (c .before .before .before .if2 .left)
 
 -- What the survey says of an accepted file.

@@ -5,6 +5,7 @@ use Prim.Native.Nat.{ℕ, _^_}
 use native.Mathlib.Omega.{arith}
 use lib.ListN.{take, drop}
 use Rattle.trial.specs.Parser.{parsed}
+use Rattle.trial.specs.Rules.{today}
 use Rattle.trial.specs.Levels.{parseLevels}
 use Rattle.trial.specs.Trial.{parseBody}
 use Rattle.trial_reader.proofs.Told.{list-told, list-inside, list-refused}
@@ -35,7 +36,7 @@ read-levels-requires-2 c κs =
 
 powers-told : (c : tie.After-at) →
     let a = entry c .args in
-    parseLevels (2 ^ a .head .degree) [] (drop (a .at) (a .file .now))
+    parseLevels today (2 ^ a .head .degree) [] (drop (a .at) (a .file .now))
     ≡ parsed (take (a .count) (c .before .before .before .before .read-levels .last .1 .1 .1 .0)) (drop (forces-at c) (a .file .now))
 powers-told c =
     let a = entry c .args in
@@ -48,7 +49,7 @@ powers-of c = c .before .before .before .before .before .before .before
 
 forces-told : (c : tie.After-at2) →
     let a = entry (powers-of c) .args in
-    parseLevels (2 ^ a .head .degree) [] (drop (forces-at (powers-of c)) (a .file .now))
+    parseLevels today (2 ^ a .head .degree) [] (drop (forces-at (powers-of c)) (a .file .now))
     ≡ parsed (take (a .count) (c .before .before .before .before .read-levels2 .last .1 .1 .1 .0))
     (drop (c .at2 .given .0 .0) (a .file .now))
 forces-told c =

@@ -1,7 +1,7 @@
 -- `check_lists` meets its contract: the tests are the causes.
 use lib.ListN.{length}
 use borrow.Author.Tests.{eq-eqb, ne-eqb}
-use Rattle.trial.specs.Levels.{disordered}
+use Rattle.levels.specs.Levels.{repeats}
 use Rattle.trial.proofs.Flags.{denied, upheld}
 use borrow.Author.Needs.{needs}
 use Rattle.trial_writer.proofs.writer.check_lists.Statement.{statement}
@@ -26,7 +26,7 @@ returns-3 c =
     let a = c .before .before .before .before .before .before .args in
     let powers = a .powers .now in
     let forces = a .forces .now in
-    let wrong = denied (c .before .ordered .result) (disordered powers) (c .before .ordered .ensures) (c .if3 .taken) in
+    let wrong = denied (c .before .distinct .result) (repeats powers) (c .before .distinct .ensures) (c .if3 .taken) in
     rw (
       eq-eqb (length powers) (a .count) (c .before .before .before .if1 .left),
       eq-eqb (length forces) (a .count)
@@ -40,9 +40,9 @@ returns-4 c =
     let powers = a .powers .now in
     let forces = a .forces .now in
     let right =
-    upheld (c .before .before .before .ordered .result) (disordered powers) (c .before .before .before .ordered .ensures)
+    upheld (c .before .before .before .distinct .result) (repeats powers) (c .before .before .before .distinct .ensures)
     (c .before .before .if3 .left) in
-    let wrong = denied (c .before .ordered2 .result) (disordered forces) (c .before .ordered2 .ensures) (c .if4 .taken) in
+    let wrong = denied (c .before .distinct2 .result) (repeats forces) (c .before .distinct2 .ensures) (c .if4 .taken) in
     rw (
       eq-eqb (length powers) (a .count) (c .before .before .before .before .before .if1 .left),
       eq-eqb (length forces) (a .count)
@@ -57,9 +57,9 @@ returns-5 c =
     let powers = a .powers .now in
     let forces = a .forces .now in
     let right =
-    upheld (c .before .before .before .ordered .result) (disordered powers) (c .before .before .before .ordered .ensures)
+    upheld (c .before .before .before .distinct .result) (repeats powers) (c .before .before .before .distinct .ensures)
     (c .before .before .if3 .left) in
-    let right′ = upheld (c .before .ordered2 .result) (disordered forces) (c .before .ordered2 .ensures) (c .if4 .left) in
+    let right′ = upheld (c .before .distinct2 .result) (repeats forces) (c .before .distinct2 .ensures) (c .if4 .left) in
     rw (
       eq-eqb (length powers) (a .count) (c .before .before .before .before .before .if1 .left),
       eq-eqb (length forces) (a .count)

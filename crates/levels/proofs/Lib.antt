@@ -1,0 +1,4 @@
+pub mod Ascent
+pub mod Members
+pub mod Differing
+pub mod Filter

@@ -1,0 +1,10 @@
+-- The rules for files in which releases differ. The parser takes them as a parameter.
+use Rattle.levels.specs.Levels.{Rule, repeated}
+
+pub record Rules : Type 0 where
+  -- Which level may not follow those before it in its list.
+  pub barred : Rule
+
+-- Today's rules. Document 02, request a: a level equal to an earlier one of its list may not follow.
+abbrev pub today : Rules
+today = record { barred = repeated }
