@@ -33,13 +33,13 @@ typedef struct Trial {
     size_t name_length, length;
 } Trial;
 
-/* What a call answers, and the memory that it is lent. */
+/* What a call answers, and the memory that it is lent, which both sides have at the same place of a cache line. */
 typedef struct Answer {
     uint32_t status, degree, codes[2], divisor, quotients[DW_CHAIN_ROOM];
-    uint64_t position;
+    uint64_t position, positions;
     size_t count, offset;
-    uint16_t powers[DW_LEVELS_ROOM], forces[DW_LEVELS_ROOM];
-    uint8_t bytes[DW_SHEET_ROOM];
+    _Alignas(64) uint16_t powers[DW_LEVELS_ROOM], forces[DW_LEVELS_ROOM];
+    _Alignas(64) uint8_t bytes[DW_SHEET_ROOM];
 } Answer;
 
 static uint32_t degree;
@@ -142,6 +142,7 @@ static void prepare_shuffled(void)
 static uint32_t (*const pair_at[SIDES])(uint32_t, uint64_t, uint32_t *, uint32_t *) = {dw_pair_at, plain_pair_at};
 static uint32_t (*const position_of[SIDES])(uint32_t, uint32_t, uint32_t, uint64_t *) = {dw_position_of, plain_position_of};
 static uint32_t (*const chain[SIDES])(uint32_t, uint32_t, uint32_t, uint32_t *, size_t, size_t *, uint32_t *) = {dw_chain, plain_chain};
+static uint32_t (*const longest_chains[SIDES])(uint32_t, uint64_t *, uint64_t *) = {dw_longest_chains, plain_longest_chains};
 static uint32_t (*const draw[SIDES])(dw_walk *, uint32_t *, uint32_t *) = {dw_draw, plain_draw};
 static uint32_t (*const site[SIDES])(uint32_t, uint32_t, uint32_t, uint32_t, uint32_t, uint32_t *, uint32_t *) = {dw_site, plain_site};
 static uint32_t (*const sheet[SIDES])(uint32_t, uint32_t, uint32_t, uint8_t *, size_t) = {dw_sheet, plain_sheet};
@@ -169,6 +170,13 @@ static void run_chain(int side, size_t from, size_t to)
     Answer *a = &answers[side];
     for (size_t i = from; i < to; i++)
         a->status = chain[side](degree, inputs[i].f, inputs[i].g, a->quotients, DW_CHAIN_ROOM, &a->count, &a->divisor);
+}
+
+static void run_longest_chains(int side, size_t from, size_t to)
+{
+    Answer *a = &answers[side];
+    for (size_t i = from; i < to; i++)
+        a->status = longest_chains[side](degree, &a->positions, &a->position);
 }
 
 /* One record is lent to each draw; behind the list's end it starts anew. */
@@ -230,6 +238,7 @@ static const Job jobs[] = {
     {"pair at, rising", prepare_rising, run_pair_at, INPUTS, 0, GOAL},
     {"position of", prepare_random, run_position_of, INPUTS, 0, GOAL},
     {"chain", prepare_codes, run_chain, INPUTS, 0, 1.1},
+    {"longest chains", prepare_rising, run_longest_chains, INPUTS, 0, GOAL},
     {"draw", prepare_rising, run_draw, INPUTS, 0, GOAL},
     {"site", prepare_random, run_site, INPUTS, 0, GOAL},
     {"sheet", prepare_random, run_sheet, TRIALS, 1, GOAL},

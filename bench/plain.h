@@ -189,6 +189,18 @@ PLAIN_CALL plain_pair_at(uint32_t n, uint64_t position, uint32_t *f, uint32_t *g
     return DW_SERVED;
 }
 
+/* By the formula; two loads from tables take about as long. */
+PLAIN_CALL plain_longest_chains(uint32_t n, uint64_t *count, uint64_t *first)
+{
+    if (n < 1 || n > 31)
+        return DW_REFUSED_DEGREE_RANGE;
+    uint64_t power = UINT64_C(1) << n, pairs = (n % 2 ? power - 2 : power + 2) / 3;
+    *count = pairs;
+    if (pairs > 0)
+        *first = (power * power / 2 - 2) / 3 - pairs;
+    return DW_SERVED;
+}
+
 PLAIN_CALL plain_draw(dw_walk *walk, uint32_t *f, uint32_t *g)
 {
     uint32_t n = walk->degree;

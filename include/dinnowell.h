@@ -39,7 +39,7 @@
 
 /* The version of this interface. MAJOR grows where a caller may have to change, MINOR where something is added. */
 #define DW_VERSION_MAJOR 2
-#define DW_VERSION_MINOR 0
+#define DW_VERSION_MINOR 1
 #define DW_VERSION (1000 * DW_VERSION_MAJOR + DW_VERSION_MINOR)
 
 /*
@@ -154,6 +154,16 @@ uint32_t dw_position_of(uint32_t n, uint32_t f, uint32_t g, uint64_t *position);
  */
 DW_MUST_CHECK
 uint32_t dw_chain(uint32_t n, uint32_t f, uint32_t g, uint32_t *quotients, size_t room, size_t *count, uint32_t *divisor);
+
+/*
+ * Which pairs of the list of degree n have the most quotients in dw_chain. None has more than n + 1; the last pairs of the list have n + 1,
+ * and all pairs before them have fewer.
+ * Served: *count is how many pairs have n + 1 quotients, and *first is the position of the first of them; *first + *count is the list's
+ * length. At degree 1 there is none: *count is 0 and *first is unchanged, so test *count before using *first.
+ * Refused: DEGREE_RANGE.
+ */
+DW_MUST_CHECK
+uint32_t dw_longest_chains(uint32_t n, uint64_t *count, uint64_t *first);
 
 /*
  * The symbols at one row and column of the squares of f and g, codes of degree n. The two may have a common factor.

@@ -22,7 +22,7 @@ CHECK(DW_REFUSED_FILE_ENDS == 9 && DW_REFUSED_NUMBER_FORM == 10 && DW_REFUSED_VE
 CHECK(DW_REFUSED_LEVEL_RANGE == 13 && DW_REFUSED_LEVEL_REPEATED == 14 && DW_REFUSED_NAME_LENGTH == 15 && DW_REFUSED_NAME_BYTE == 16);
 CHECK(DW_REFUSED_TRAILING_BYTES == 17);
 CHECK(DW_CHAIN_ROOM == 32 && DW_LEVELS_ROOM == 64 && DW_SHEET_ROOM == 8192 && DW_FILE_ROOM == 429 && DW_NAME_ROOM == 40);
-CHECK(DW_STACK_ROOM == 8192 && DW_VERSION_MAJOR == 2 && DW_VERSION_MINOR == 0 && DW_VERSION == 2000);
+CHECK(DW_STACK_ROOM == 8192 && DW_VERSION_MAJOR == 2 && DW_VERSION_MINOR == 1 && DW_VERSION == 2001);
 
 enum { SEED = 20261115, GUARD = 64, LARGEST = 1 << 14, SLOTS = 16 };
 
@@ -222,6 +222,17 @@ static void try_chain(void)
     came_back(0, quotients, 4 * many, "dw_chain: quotients");
     came_size(1, want, many, "dw_chain: count");
     came_u32(2, want, divisor, "dw_chain: divisor");
+}
+
+/* Where there is none, the first stays what it was. */
+static void try_longest_chains(void)
+{
+    uint32_t n = some_degree(1, 31), want = out_of_range(n) ? 1 : 0;
+    uint64_t first = want ? 0 : ref_longest(n), many = want ? 0 : ref_length(n) - first;
+    uint64_t *to_many = lend_u64(0), *to_first = lend_u64(1);
+    count(dw_longest_chains(n, to_many, to_first), want, "dw_longest_chains");
+    came_u64(0, want, many, "dw_longest_chains: count");
+    came_u64(1, want || many == 0, first, "dw_longest_chains: first");
 }
 
 static void try_site(void)
@@ -451,6 +462,27 @@ static void whole_lists(void)
     }
 }
 
+/* Every position of small degrees: plain Euclid counts n + 1 quotients from the given one on, and fewer before it. */
+static void whole_chains(void)
+{
+    static const uint64_t firsts[9] = { 9, 9, 0, 8, 36, 160, 660, 2688, 10836 };
+    for (uint32_t n = 1; n <= 8; n++) {
+        uint64_t many = 9, first = 9, reached = 0, pairs = ref_length(n);
+        count(dw_longest_chains(n, &many, &first), 0, "longest: served");
+        expect(first == firsts[n], "longest: first");
+        for (uint64_t position = 0; position < pairs; position++) {
+            uint32_t f, g, quotients[64], divisor;
+            size_t counted;
+            count(dw_pair_at(n, position, &f, &g), 0, "longest: pair");
+            count(dw_chain(n, f, g, quotients, DW_CHAIN_ROOM, &counted, &divisor), 0, "longest: chain");
+            size_t length = ref_chain(f, g, quotients, &divisor);
+            expect(length == counted && length <= n + 1 && (length == n + 1) == (position >= first), "longest: quotients");
+            reached += length == n + 1;
+        }
+        expect(reached == many, "longest: count");
+    }
+}
+
 /* The longest file there is, which is as long as the header says; a name of 41 bytes is refused. */
 static void longest_file(void)
 {
@@ -611,7 +643,7 @@ static void part(const char *name, void (*once)(void), int times, uint32_t least
         printf("%s: met %016" PRIx64 ", not %016" PRIx64 "\n", name, seen, numbers);
         exit(1);
     }
-    printf("%-16s %9" PRIu64 " calls, %9" PRIu64 " served, each of its numbers met\n", name, calls, served);
+    printf("%-17s %9" PRIu64 " calls, %9" PRIu64 " served, each of its numbers met\n", name, calls, served);
 }
 
 int main(int argc, char **argv)
@@ -621,6 +653,7 @@ int main(int argc, char **argv)
     printf("seed %d\n", SEED);
     part("printed entries", printed_entries, 1, 2, 2, spent);
     part("whole lists", whole_lists, 1, 0, 0, 0);
+    part("whole chains", whole_chains, 1, 0, 0, 0);
     part("longest file", longest_file, 1, 15, 15, 0);
     part("repeated levels", repeated_levels, 1, 14, 14, bit(7) | bit(9));
     part("null pointers", null_pointers, 1, 2, 2, four | bit(9));
@@ -630,6 +663,7 @@ int main(int argc, char **argv)
     part("dw_pairs_from", try_pairs_from, 50 * scale, 1, 2, four);
     part("dw_position_of", try_position_of, 300 * scale, 6, 8, one);
     part("dw_chain", try_chain, 300 * scale, 6, 7, one | four);
+    part("dw_longest_chains", try_longest_chains, 10 * scale, 1, 1, 0);
     part("dw_site", try_site, 300 * scale, 5, 7, one);
     part("dw_sheet", try_sheet, 20 * scale, 6, 8, four | twelve);
     part("the walk", try_walk, 100 * scale, 3, 3, one | spent);

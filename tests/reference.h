@@ -160,6 +160,22 @@ static void ref_pair(uint32_t n, uint64_t position, uint32_t *f, uint32_t *g)
     *g = (uint32_t)r;
 }
 
+/* The first position of the list whose pair has n + 1 quotients, or the list's length: no chain is shorter than one before it. */
+static uint64_t ref_longest(uint32_t n)
+{
+    uint64_t low = 0, high = ref_length(n);
+    while (low < high) {
+        uint64_t middle = (low + high) / 2;
+        uint32_t f, g, quotients[64], divisor;
+        ref_pair(n, middle, &f, &g);
+        if (ref_chain(f, g, quotients, &divisor) == n + 1)
+            high = middle;
+        else
+            low = middle + 1;
+    }
+    return low;
+}
+
 static uint32_t ref_symbol(uint32_t n, uint32_t code, uint32_t row, uint32_t col)
 {
     uint32_t cells[64], symbol = 0;

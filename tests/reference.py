@@ -281,6 +281,21 @@ def pair_at(n, position):
     return code_of(r ^ s), code_of(r)
 
 
+def chain_lengths():
+    """Degree, a checksum of the chains' lengths, how many reach n + 1 and where the first of them stands. Up to degree 8 the whole list is
+    looked through; above, with no checksum, the blocks before the last are counted and the last one's words. Degrees 0 and 32 get 1."""
+    print("longest", 0, 0, 1)
+    for n in range(1, 32):
+        if n <= 8:
+            lengths = [len(chain(f, g)[0]) for f, g in coprime_pairs(n)]
+            reached = [j for j, length in enumerate(lengths) if length == n + 1]
+            print("longest", n, mixed(0, *lengths), *([len(reached), reached[0]] if reached else ["none"]))
+        else:
+            words = kept_words(n)[1]
+            print("longest", n, 0, words["10", n], sum(comb(n - 1, k - 1) * 2 ** (n - k) * words["10", k] for k in range(2, n)))
+    print("longest", 32, 0, 1)
+
+
 def spread():
     """A hundred positions spread over the list of degree 31, the last one, and the refusal behind it."""
     total, length = 0, 2 * (4**30 - 1) // 3
@@ -295,6 +310,7 @@ if __name__ == "__main__":
     print(sites())
     print(sheets())
     lists(int(sys.argv[1]) if len(sys.argv) > 1 else 12)
+    chain_lengths()
     print(spread(), 101)
     print(damaged())
     print(entries())

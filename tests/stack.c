@@ -70,6 +70,11 @@ static void calls_chain(void)
     status = dw_chain(n, f, g, codes, DW_CHAIN_ROOM, &count, &first);
 }
 
+static void calls_longest_chains(void)
+{
+    status = dw_longest_chains(n, &number, &position);
+}
+
 static void calls_site(void)
 {
     status = dw_site(n, f, g, row, col, &first, &second);
@@ -110,14 +115,14 @@ static struct {
     void (*job)(void);
     size_t most;
 } calls[] = {
-    { "dw_length", calls_length, 0 }, { "dw_start", calls_start, 0 },
+    { "dw_longest_chains", calls_longest_chains, 0 }, { "dw_length", calls_length, 0 }, { "dw_start", calls_start, 0 },
     /* With a position. */
     { "dw_pair_at", calls_pair_at, 0 }, { "dw_pairs_from", calls_pairs_from, 0 }, { "dw_position_of", calls_position_of, 0 },
     { "dw_chain", calls_chain, 0 }, { "dw_site", calls_site, 0 }, { "dw_look", calls_look, 0 }, { "dw_draw", calls_draw, 0 },
     /* With a degree of sheets. */
     { "dw_sheet", calls_sheet, 0 }, { "dw_write", calls_write, 0 }, { "dw_read", calls_read, 0 },
 };
-enum { PLACED = 2, OF_SHEETS = 9, CALLS = sizeof calls / sizeof calls[0] };
+enum { PLACED = 3, OF_SHEETS = 10, CALLS = sizeof calls / sizeof calls[0] };
 
 static int served = 1;
 
@@ -168,7 +173,7 @@ int main(void)
     }
 
     for (size_t i = 0; i < CALLS; i++) {
-        printf("%-16s %5zu bytes of stack\n", calls[i].name, calls[i].most - least);
+        printf("%-17s %5zu bytes of stack\n", calls[i].name, calls[i].most - least);
         most = calls[i].most - least > most ? calls[i].most - least : most;
     }
     if (!served)

@@ -1,4 +1,4 @@
-// Checksums of whole lists, and positions found back.
+// Checksums of whole lists and of their chains' lengths, and positions found back.
 use crate::random::mixed;
 
 pub fn length(n: u32) -> u64 {
@@ -40,6 +40,30 @@ pub fn found_back(n: u32) -> u64 {
         found = std::num::wrapping_add_u64(found, back(n, position));
     }
     found
+}
+
+// How many quotients the chain call counts.
+fn quotients(n: u32, f: u32, g: u32) -> u64 {
+    let mut chain = [0u32; 32];
+    match euclid::quotients(n, f, g, &mut chain) {
+        euclid::Chained::Quotients { count, divisor: _ } => count as u64,
+        euclid::Chained::Refused(_) => 0,
+    }
+}
+
+fn chain_length(sum: u64, n: u32, position: u64) -> u64 {
+    match pairs::pair_at(n, position) {
+        pairs::Found::Codes(f, g) => mixed(sum, quotients(n, f, g)),
+        pairs::Found::Refused(refusal) => mixed(sum, refusal.number() as u64),
+    }
+}
+
+pub fn chain_lengths_sum(n: u32) -> u64 {
+    let mut sum: u64 = 0;
+    for position in 0..length(n) {
+        sum = chain_length(sum, n, position);
+    }
+    sum
 }
 
 // The i-th of a hundred positions spread over the list of degree 31.

@@ -28,14 +28,55 @@ fn list_line(n: u32) {
     line(found);
 }
 
+fn list_lines() {
+    for n in 2..13u32 {
+        list_line(n);
+    }
+}
+
+// How many positions reach the longest chains, and the first of them.
+fn longest(n: u32) {
+    match longest::longest_chains(n) {
+        longest::Reach::From { count, first } => {
+            number(count);
+            io::write_all(STDOUT_FILENO, b" ");
+            line(first);
+        }
+        longest::Reach::Nowhere => {
+            io::write_all(STDOUT_FILENO, b"none\n");
+        }
+        longest::Reach::Refused(refusal) => line(refusal.number() as u64),
+    }
+}
+
+// Degree, a checksum of all chains' lengths where the list is short, and the longest chains.
+fn longest_line(n: u32) {
+    let sum = if n <= 8 {
+        lists::chain_lengths_sum(n)
+    } else {
+        0
+    };
+    io::write_all(STDOUT_FILENO, b"longest ");
+    number(n as u64);
+    io::write_all(STDOUT_FILENO, b" ");
+    number(sum);
+    io::write_all(STDOUT_FILENO, b" ");
+    longest(n);
+}
+
+fn longest_lines() {
+    for n in 0..33u32 {
+        longest_line(n);
+    }
+}
+
 fn main() {
     line(checks::arithmetic_sum());
     line(checks::chain_sum());
     line(checks::site_sum());
     line(checks::sheet_sum());
-    for n in 2..13u32 {
-        list_line(n);
-    }
+    list_lines();
+    longest_lines();
     number(lists::spread_sum());
     io::write_all(STDOUT_FILENO, b" ");
     line(lists::spread_found());

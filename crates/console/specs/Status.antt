@@ -9,7 +9,7 @@ status (served values) = 0
 status (refused number) = number
 status spent = 255
 
--- What stands behind the pointer for value i after a call: that value where the call is served; otherwise what stood there.
+-- What stands behind the pointer for value i after a call: that value where the call is served with one; otherwise what stood there.
 abbrev pub value : ℕ → Reply → ℕ → ℕ
 value i (served values) old = getD values i old
 value i (refused number) old = old

@@ -11,6 +11,10 @@ choose-above n zero h = absurd (omega arith)
 choose-above zero (suc k) h = refl
 choose-above (suc n) (suc k) h = omega (arith, choose-above n k (omega arith), choose-above n (suc k) (omega arith))
 
+pub choose-all : (n : ℕ) → choose n n ≡ 1
+choose-all zero = refl
+choose-all (suc n) = omega (arith, choose-all n, choose-above n (suc n) (omega arith))
+
 absorption : (n k : ℕ) → choose (suc n) (suc k) * suc k ≡ choose n k * suc n
 absorption zero zero = refl
 absorption zero (suc k) = zero-mul (suc (suc k))

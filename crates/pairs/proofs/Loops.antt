@@ -174,6 +174,10 @@ module _ (size : ℕ → ℕ) where
         is = omega arith;
       }
 
+  pub before-next : (a i : ℕ) → before size a (suc i) ≡ before size a i + size (a + i)
+  before-next a zero = omega (arith, ap size (add-zero a))
+  before-next a (suc i) = rw (add-suc, ← suc-add) (let ih : _ = before-next (suc a) i in omega arith)
+
   pub block-le : (a m i : ℕ) → i < m → size (a + i) ≤ before size a m
   block-le a zero i h = absurd (omega arith)
   block-le a (suc m) zero h = rw add-zero (omega arith)

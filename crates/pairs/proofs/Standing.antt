@@ -12,7 +12,7 @@ use lib.ListN.{length, getD, length-map}
 use Rattle.poly.specs.Limits.{listLength}
 use Rattle.poly.specs.Code.{HasDegree}
 use Rattle.poly.specs.Coprime.{gcd}
-use Rattle.poly.proofs.Ranges.{inside}
+use Rattle.poly.proofs.Ranges.{inside, Passed}
 use Rattle.poly.proofs.Binary.{coprime-one}
 use Rattle.euclid.specs.Chain.{Chain, Pair, chain}
 use Rattle.pairs.specs.Sequences.{sequences}
@@ -44,6 +44,11 @@ build-once n qs rs v w e =
 pub entries-coprime : (n j : ℕ) → j < length (pairs n) → CoprimePair n (getD (pairs n) j start)
 entries-coprime n j h =
     rw (at n j h) (valid-pair n (getD (sequences n) j []) (sequences-valid n j (rw (same-length n) at h)))
+
+-- the codes of a coprime pair pass the tests of a code
+pub coprime-passed : (n : ℕ) (pair : Pair) → CoprimePair n pair → Passed n (pair .f) (pair .g)
+coprime-passed n pair c =
+    record { degree-f = c .degree-f; odd-f = c .odd-f; degree-g = c .degree-g; odd-g = c .odd-g }
 
 pub coprime-stands : (n : ℕ) → 1 ≤ n → (pair : Pair) → CoprimePair n pair → Stands n pair
 coprime-stands n pos pair c =

@@ -1,18 +1,14 @@
 -- Demand 3 holds: the walk's claim, the list's and the squares', put together.
-use mathlib.Core.Bool.{false}
 use mathlib.Core.List.{[], _∷_}
 use mathlib.Core.Path.{_≡_, refl, sym, _∙_}
-use Prim.Native.Nat.{ℕ, _%_, _^_, _≤_, _<_}
+use Prim.Native.Nat.{ℕ, _^_, _≤_, _<_}
 use native.Mathlib.Nat.{le-refl}
-use native.Mathlib.Omega.{arith}
-use borrow.Author.Tests.{lt-leb, ne-eqb}
-use lib.Dec.{eqb}
+use borrow.Author.Tests.{lt-leb}
 use lib.ListN.{length}
 use Rattle.reply.specs.Reply.{served}
 use Rattle.reply.proofs.Order.{none-refuses}
 use Rattle.poly.specs.Limits.{listLength}
-use Rattle.poly.specs.Causes.{codeCauses}
-use Rattle.poly.proofs.Ranges.{inside, on-degree}
+use Rattle.poly.proofs.Ranges.{inside, Passed, codes-pass}
 use Rattle.poly.proofs.Primes.{inverses-2}
 use Rattle.pairs.specs.Pairs.{pairs}
 use Rattle.pairs.proofs.Standing.{list-complete, pair-answers}
@@ -23,31 +19,16 @@ use Rattle.squares.proofs.Claims.{squares-orthogonal}
 use Rattle.walk.proofs.Walking.{walked-from-start}
 use Rattle.planner.specs.Demand.{Polynomial, DemandThree}
 
-odd : (code : ℕ) → code % 2 ≡ 1 → eqb (code % 2) 0 ≡ false
-odd code e = ne-eqb (code % 2) 0 (λ z. omega arith)
-
 module _ (n : ℕ) (low : 1 ≤ n) (high : n ≤ 31) where
   -- no cause of the site call applies
   site-answers : (f g row col : ℕ) → Polynomial n f → Polynomial n g → row < 2 ^ n → col < 2 ^ n
       → siteReply n f g row col ≡ served (symbol 2 n f row col ∷ symbol 2 n g row col ∷ [])
-  unfolding siteReply codeCauses
+  unfolding siteReply
   site-answers f g row col pf pg hr hc =
-      none-refuses (siteCauses n f g row col) _ (
-        inside 1 31 low high,
-        (
-          on-degree (pf .degree),
-          (
-            odd f (pf .constant),
-            (
-              on-degree (pg .degree),
-              (
-                odd g (pg .constant),
-                (rw (lt-leb (2 ^ n) row hr, lt-leb (2 ^ n) col hc), tt),
-              ),
-            ),
-          ),
-        ),
-      )
+      let codes : Passed n f g =
+      record { degree-f = pf .degree; odd-f = pf .constant; degree-g = pg .degree; odd-g = pg .constant } in
+      none-refuses (siteCauses n f g row col) _
+      (inside 1 31 low high, codes-pass n f g _ codes (rw (lt-leb (2 ^ n) row hr, lt-leb (2 ^ n) col hc), tt))
 
 pub demand-three : DemandThree
 demand-three n low high =

@@ -7,7 +7,7 @@ use native.Mathlib.Nat.{pow-le-pow-right}
 use native.Mathlib.Decide.{decLt}
 use native.Mathlib.Omega.{arith}
 use lib.Dec.{leb, ltb, eqb, lit<}
-use borrow.Author.Tests.{lt-ltb, le-ltb, le-leb, lt-leb, ltb-false, leb-false, eqb-false}
+use borrow.Author.Tests.{lt-ltb, le-ltb, le-leb, lt-leb, ltb-false, leb-false, eqb-false, ne-eqb}
 use Rattle.poly.specs.Code.{HasDegree}
 use Rattle.poly.specs.Limits.{outside, listLength}
 use Rattle.poly.specs.Replies.{lengthReply}
@@ -79,7 +79,14 @@ unfolding codeCauses
 passed-codes n f g more (df, (of, (dg, (og, rest)))) =
     record { degree-f = has-degree df; odd-f = odd f of; degree-g = has-degree dg; odd-g = odd g og }
 
--- ---- what the length's reply tells of the degree
+not-even : (a : ℕ) → a % 2 ≡ 1 → eqb (a % 2) 0 ≡ false
+not-even a e = ne-eqb (a % 2) 0 (λ z. omega arith)
+
+pub codes-pass : (n f g : ℕ) (more : List Cause) → Passed n f g → NoneApplies more → NoneApplies (codeCauses n f ++ codeCauses n g ++ more)
+unfolding codeCauses
+codes-pass n f g more p rest =
+    (on-degree (p .degree-f), (not-even f (p .odd-f), (on-degree (p .degree-g), (not-even g (p .odd-g), rest))))
+
 -- ---- a reply that the degree alone refuses
 pub count-served : (n value : ℕ) {x : ℕ} → served (x ∷ []) ≡ unless (degreeCause n ∷ []) (served (value ∷ []))
     → (outside 1 31 n ≡ false) × (x ≡ value)

@@ -10,7 +10,7 @@ use Rattle.pairs.specs.Loops.{numbers, each}
 use Rattle.pairs.specs.Words.{s10, words}
 use Rattle.pairs.specs.Sequences.{block, sequences}
 use Rattle.pairs.proofs.Compositions.{parts}
-use Rattle.pairs.proofs.Loops.{before, listed-blocks}
+use Rattle.pairs.proofs.Loops.{before, before-next, listed-blocks}
 use Rattle.pairs.proofs.Words.{count, length-words}
 use Rattle.pairs.proofs.Blocks.{blockSize, blockAt, listed-block}
 use Rattle.pairs.proofs.Sequences.{length-sequences}
@@ -19,10 +19,6 @@ use Rattle.positions.proofs.Ranking.{words-le}
 
 pub length-before : (n i : ℕ) → length (each (numbers 2 i) (block n)) ≡ before (blockSize n) 2 i
 length-before n i = listed-blocks (blockSize n) (blockAt n) [] (block n) (listed-block n) 2 i .long
-
-before-next : (size : ℕ → ℕ) (a i : ℕ) → before size a (suc i) ≡ before size a i + size (a + i)
-before-next size a zero = omega (arith, ap size (add-zero a))
-before-next size a (suc i) = rw (add-suc, ← suc-add) (let ih : _ = before-next size (suc a) i in omega arith)
 
 before-within : (size : ℕ → ℕ) (a m i : ℕ) → i < m → before size a i + size (a + i) ≤ before size a m
 before-within size a zero i h = absurd (omega arith)

@@ -2,9 +2,8 @@
 use mathlib.Core.Bool.{false}
 use mathlib.Core.List.{[], _∷_, _++_}
 use mathlib.Core.Path.{_≡_, refl, sym, ap, _∙_}
-use Prim.Native.Nat.{ℕ, _%_, _≤_, _<_}
-use native.Mathlib.Omega.{arith}
-use borrow.Author.Tests.{leb-false, eq-eqb, ne-eqb, eqb-true, not-false}
+use Prim.Native.Nat.{ℕ, _≤_, _<_}
+use borrow.Author.Tests.{leb-false, eq-eqb, eqb-true, not-false}
 use lib.Dec.{leb, eqb}
 use lib.ListN.{length}
 use Rattle.reply.specs.Reply.{served, _gives_}
@@ -13,40 +12,25 @@ use Rattle.poly.specs.Limits.{listLength}
 use Rattle.poly.specs.Coprime.{gcd}
 use Rattle.poly.specs.Causes.{degreeCause, codeCauses, commonFactor}
 use Rattle.poly.proofs.Binary.{coprime-one}
-use Rattle.poly.proofs.Ranges.{inside, on-degree, passed-codes}
+use Rattle.poly.proofs.Ranges.{inside, passed-codes, codes-pass}
 use Rattle.euclid.specs.Chain.{Pair}
 use Rattle.pairs.specs.Pairs.{pairs, entry, indexOf, CoprimePair}
 use Rattle.pairs.specs.Replies.{pairReply, pairAtReply}
 use Rattle.pairs.proofs.Pairs.{length-pairs}
-use Rattle.pairs.proofs.Standing.{entries-coprime, coprime-stands, index-stands, pair-answers}
+use Rattle.pairs.proofs.Standing.{entries-coprime, coprime-passed, coprime-stands, index-stands, pair-answers}
 use Rattle.positions.specs.Replies.{positionReply}
 use Rattle.positions.specs.Claims.{UndoClaim}
-
-odd : (code : ℕ) → code % 2 ≡ 1 → eqb (code % 2) 0 ≡ false
-odd code e = ne-eqb (code % 2) 0 (λ z. omega arith)
 
 module _ (n : ℕ) (low : 1 ≤ n) (high : n ≤ 31) where
   position-answers : (two : Pair) → CoprimePair n two
       → positionReply n (two .f) (two .g) ≡ served (indexOf (two .f) (two .g) (pairs n) ∷ [])
-  unfolding positionReply codeCauses
+  unfolding positionReply
   position-answers two c =
-      none-refuses
-      (degreeCause n ∷ codeCauses n (two .f) ++ codeCauses n (two .g) ++ (commonFactor (two .f) (two .g) ∷ [])) _ (
-        inside 1 31 low high,
-        (
-          on-degree (c .degree-f),
-          (
-            odd (two .f) (c .odd-f),
-            (
-              on-degree (c .degree-g),
-              (
-                odd (two .g) (c .odd-g),
-                (rw (eq-eqb (gcd 2 (two .f) (two .g)) 1 (coprime-one (two .f) (two .g) .0 (c .coprime))), tt),
-              ),
-            ),
-          ),
-        ),
-      )
+      let none : commonFactor (two .f) (two .g) ≡ false gives 8 =
+      rw (eq-eqb (gcd 2 (two .f) (two .g)) 1 (coprime-one (two .f) (two .g) .0 (c .coprime))) in
+      rw none
+      (none-refuses (degreeCause n ∷ codeCauses n (two .f) ++ codeCauses n (two .g) ++ (false gives 8 ∷ [])) _
+      (inside 1 31 low high, codes-pass n (two .f) (two .g) (false gives 8 ∷ []) (coprime-passed n two c) (refl, tt)))
 
   pub entry-found : (j : ℕ) → j < listLength n → positionReply n (entry n j .f) (entry n j .g) ≡ served (j ∷ [])
   entry-found j h =

@@ -1,0 +1,3 @@
+pub mod LastBlock
+pub mod Calls
+pub mod Examples
