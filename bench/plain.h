@@ -189,6 +189,16 @@ PLAIN_CALL plain_pair_at(uint32_t n, uint64_t position, uint32_t *f, uint32_t *g
     return DW_SERVED;
 }
 
+PLAIN_CALL plain_unordered_pair_at(uint32_t n, uint64_t entry, uint32_t *f, uint32_t *g)
+{
+    if (n < 1 || n > 31)
+        return DW_REFUSED_DEGREE_RANGE;
+    if (entry >= plain_first[n][n + 1] / 2)
+        return DW_REFUSED_POSITION_RANGE;
+    plain_pair(n, 2 * entry, f, g);
+    return DW_SERVED;
+}
+
 /* By the formula; two loads from tables take about as long. */
 PLAIN_CALL plain_longest_chains(uint32_t n, uint64_t *count, uint64_t *first)
 {

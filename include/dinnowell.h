@@ -12,7 +12,7 @@
  * n - 1 - i of the symbol is 1 if an odd number of the cells i + j are 1, over all j from 0 to n for which bit j of the code is 1. Laid
  * over each other, the squares of two codes of degree n show each pair of symbols at exactly one site if the codes are coprime, and only
  * then.
- * Positions, rows, columns and symbols count from 0. The format of a trial file is in docs/SCOPE.md under "Trial file".
+ * Positions, entries, rows, columns and symbols count from 0. The format of a trial file is in docs/SCOPE.md under "Trial file".
  *
  * WHAT A FUNCTION ANSWERS. Every function returns DW_SERVED, the number of a refusal, or, where it says so, DW_SPENT. The refusals that a
  * function can return are listed with it, without their prefix DW_REFUSED_, in the order in which it looks for them; the first that applies
@@ -39,7 +39,7 @@
 
 /* The version of this interface. MAJOR grows where a caller may have to change, MINOR where something is added. */
 #define DW_VERSION_MAJOR 2
-#define DW_VERSION_MINOR 1
+#define DW_VERSION_MINOR 2
 #define DW_VERSION (1000 * DW_VERSION_MAJOR + DW_VERSION_MINOR)
 
 /*
@@ -62,7 +62,7 @@ enum {
     DW_SERVED = 0,
     /* Caused by the console. */
     DW_REFUSED_DEGREE_RANGE = 1,    /* degree outside 1 to 31 */
-    DW_REFUSED_POSITION_RANGE = 2,  /* position not below the list's length */
+    DW_REFUSED_POSITION_RANGE = 2,  /* position not below the list's length; for dw_unordered_pair_at, entry not below half of that */
     DW_REFUSED_WALK_RECORD = 3,     /* walk record with degree outside 1 to 31, or position above the list's length */
     DW_REFUSED_SLICE_LENGTH = 4,    /* memory too short for the results; for dw_write also a list of levels not of length 2^n */
     DW_REFUSED_SITE_RANGE = 5,      /* row or column not below 2^n */
@@ -144,6 +144,16 @@ uint32_t dw_pairs_from(uint32_t n, uint64_t position, uint32_t *codes, size_t ro
  */
 DW_MUST_CHECK
 uint32_t dw_position_of(uint32_t n, uint32_t f, uint32_t g, uint64_t *position);
+
+/*
+ * The pair at an entry of the second list of degree n, in which (f, g) and (g, f) count once. Its entry j is the pair at position 2j of the
+ * list; the swapped pair is at position 2j + 1. So the entry of a pair, in either order, is half the position that dw_position_of gives,
+ * rounded down.
+ * Served: *f and *g are its codes.
+ * Refused: DEGREE_RANGE; POSITION_RANGE if entry is not below half the number that dw_length gives.
+ */
+DW_MUST_CHECK
+uint32_t dw_unordered_pair_at(uint32_t n, uint64_t entry, uint32_t *f, uint32_t *g);
 
 /*
  * The quotients of Euclid's algorithm on the codes f and g of degree n: f is divided by g, then each divisor by its remainder, until that

@@ -22,7 +22,7 @@ CHECK(DW_REFUSED_FILE_ENDS == 9 && DW_REFUSED_NUMBER_FORM == 10 && DW_REFUSED_VE
 CHECK(DW_REFUSED_LEVEL_RANGE == 13 && DW_REFUSED_LEVEL_REPEATED == 14 && DW_REFUSED_NAME_LENGTH == 15 && DW_REFUSED_NAME_BYTE == 16);
 CHECK(DW_REFUSED_TRAILING_BYTES == 17);
 CHECK(DW_CHAIN_ROOM == 32 && DW_LEVELS_ROOM == 64 && DW_SHEET_ROOM == 8192 && DW_FILE_ROOM == 429 && DW_NAME_ROOM == 40);
-CHECK(DW_STACK_ROOM == 8192 && DW_VERSION_MAJOR == 2 && DW_VERSION_MINOR == 1 && DW_VERSION == 2001);
+CHECK(DW_STACK_ROOM == 8192 && DW_VERSION_MAJOR == 2 && DW_VERSION_MINOR == 2 && DW_VERSION == 2002);
 
 enum { SEED = 20261115, GUARD = 64, LARGEST = 1 << 14, SLOTS = 16 };
 
@@ -176,6 +176,20 @@ static void try_pair_at(void)
     count(dw_pair_at(n, position, to_f, to_g), want, "dw_pair_at");
     came_u32(0, want, f, "dw_pair_at: f");
     came_u32(1, want, g, "dw_pair_at: g");
+}
+
+static void try_unordered_pair_at(void)
+{
+    uint32_t n = some_degree(1, 31), f = 0, g = 0;
+    uint64_t entries = out_of_range(n) ? 0 : ref_length(n) / 2;
+    uint64_t entry = entries && draw(16) ? draw64() % entries : draw(4) ? entries + draw(2) : draw64();
+    uint32_t want = out_of_range(n) ? 1 : entry >= entries ? 2 : 0;
+    if (want == 0)
+        ref_pair(n, 2 * entry, &f, &g);
+    uint32_t *to_f = lend_u32(0), *to_g = lend_u32(1);
+    count(dw_unordered_pair_at(n, entry, to_f, to_g), want, "dw_unordered_pair_at");
+    came_u32(0, want, f, "dw_unordered_pair_at: f");
+    came_u32(1, want, g, "dw_unordered_pair_at: g");
 }
 
 static void try_pairs_from(void)
@@ -462,6 +476,33 @@ static void whole_lists(void)
     }
 }
 
+/* The second lists of small degrees: of the list, the pairs whose swap has not come before. Both orders of a pair are found side by side.
+ * Then, at every degree, entries that are refused, among them some whose double wraps round to a position of the list. */
+static void second_lists(void)
+{
+    static uint8_t came[512][512];
+    uint32_t f, g, first, second;
+    for (uint32_t n = 1; n <= 8; n++) {
+        uint64_t entry = 0, place, pairs = ref_length(n);
+        for (uint64_t position = 0; position < pairs; position++) {
+            ref_pair(n, position, &f, &g);
+            came[f][g] = 1;
+            count(dw_position_of(n, g, f, &place), 0, "second list: swapped");
+            expect(place == (position ^ 1), "second list: other position");
+            if (came[g][f])
+                continue;
+            count(dw_unordered_pair_at(n, entry++, &first, &second), 0, "second list: served");
+            expect(first == f && second == g, "second list: pair");
+        }
+        expect(2 * entry == pairs, "second list: length");
+    }
+    for (uint32_t n = 1; n <= 31; n++) {
+        const uint64_t half = ref_length(n) / 2, top = UINT64_C(1) << 63, refused[] = { half, top, top + 1, top + half - 1, UINT64_MAX };
+        for (int i = 0; i < 5; i++)
+            count(dw_unordered_pair_at(n, refused[i], &first, &second), 2, "second list: end");
+    }
+}
+
 /* Every position of small degrees: plain Euclid counts n + 1 quotients from the given one on, and fewer before it. */
 static void whole_chains(void)
 {
@@ -643,7 +684,7 @@ static void part(const char *name, void (*once)(void), int times, uint32_t least
         printf("%s: met %016" PRIx64 ", not %016" PRIx64 "\n", name, seen, numbers);
         exit(1);
     }
-    printf("%-17s %9" PRIu64 " calls, %9" PRIu64 " served, each of its numbers met\n", name, calls, served);
+    printf("%-20s %9" PRIu64 " calls, %9" PRIu64 " served, each of its numbers met\n", name, calls, served);
 }
 
 int main(int argc, char **argv)
@@ -653,6 +694,7 @@ int main(int argc, char **argv)
     printf("seed %d\n", SEED);
     part("printed entries", printed_entries, 1, 2, 2, spent);
     part("whole lists", whole_lists, 1, 0, 0, 0);
+    part("second lists", second_lists, 1, 2, 2, 0);
     part("whole chains", whole_chains, 1, 0, 0, 0);
     part("longest file", longest_file, 1, 15, 15, 0);
     part("repeated levels", repeated_levels, 1, 14, 14, bit(7) | bit(9));
@@ -660,6 +702,7 @@ int main(int argc, char **argv)
     part("kept record", kept_record, 1, 3, 3, spent);
     part("dw_length", try_length, 100 * scale, 1, 1, 0);
     part("dw_pair_at", try_pair_at, 300 * scale, 1, 2, 0);
+    part("dw_unordered_pair_at", try_unordered_pair_at, 300 * scale, 1, 2, 0);
     part("dw_pairs_from", try_pairs_from, 50 * scale, 1, 2, four);
     part("dw_position_of", try_position_of, 300 * scale, 6, 8, one);
     part("dw_chain", try_chain, 300 * scale, 6, 7, one | four);

@@ -5,6 +5,7 @@ by a reader written from the documents. Run it to make crates/compare/stdout.
 
 With an argument the lists go up to that degree: reference.py 10"""
 import sys
+from functools import cache
 from math import comb
 
 
@@ -62,6 +63,7 @@ def key(quotients):
     return len(sequence), degrees, int(bits or "0", 2), [q & 1 for q in sequence]
 
 
+@cache
 def coprime_pairs(n):
     odd = range(2**n + 1, 2 ** (n + 1), 2)
     found = []
@@ -296,6 +298,19 @@ def chain_lengths():
     print("longest", 32, 0, 1)
 
 
+def unordered():
+    """For each second list, made of the pairs of the list whose swap has not come before: degree, number of entries, and a checksum with the
+    refusal behind its end. Then a checksum of the last entry of degree 31 and of what is refused: the entry behind it, 2^63 and 2^64 - 1;
+    degrees 1, 0 and 32."""
+    for n in range(2, 11):
+        kept = {}
+        for f, g in coprime_pairs(n):
+            if (g, f) not in kept:
+                kept[f, g] = True
+        print("unordered", n, len(kept), mixed(0, *(code for pair in kept for code in pair), 2))
+    print("unordered ends", mixed(0, *pair_at(31, 2 * (4**30 - 1) // 3 - 2), 2, 2, 2, 2, 1, 1))
+
+
 def spread():
     """A hundred positions spread over the list of degree 31, the last one, and the refusal behind it."""
     total, length = 0, 2 * (4**30 - 1) // 3
@@ -311,6 +326,7 @@ if __name__ == "__main__":
     print(sheets())
     lists(int(sys.argv[1]) if len(sys.argv) > 1 else 12)
     chain_lengths()
+    unordered()
     print(spread(), 101)
     print(damaged())
     print(entries())

@@ -55,6 +55,11 @@ static void calls_pair_at(void)
     status = dw_pair_at(n, position, &f, &g);
 }
 
+static void calls_unordered_pair_at(void)
+{
+    status = dw_unordered_pair_at(n, position / 2, &first, &second);
+}
+
 static void calls_pairs_from(void)
 {
     status = dw_pairs_from(n, position, codes, room, &count);
@@ -117,16 +122,18 @@ static struct {
 } calls[] = {
     { "dw_longest_chains", calls_longest_chains, 0 }, { "dw_length", calls_length, 0 }, { "dw_start", calls_start, 0 },
     /* With a position. */
-    { "dw_pair_at", calls_pair_at, 0 }, { "dw_pairs_from", calls_pairs_from, 0 }, { "dw_position_of", calls_position_of, 0 },
-    { "dw_chain", calls_chain, 0 }, { "dw_site", calls_site, 0 }, { "dw_look", calls_look, 0 }, { "dw_draw", calls_draw, 0 },
+    { "dw_pair_at", calls_pair_at, 0 }, { "dw_unordered_pair_at", calls_unordered_pair_at, 0 }, { "dw_pairs_from", calls_pairs_from, 0 },
+    { "dw_position_of", calls_position_of, 0 }, { "dw_chain", calls_chain, 0 }, { "dw_site", calls_site, 0 },
+    { "dw_look", calls_look, 0 }, { "dw_draw", calls_draw, 0 },
     /* With a degree of sheets. */
     { "dw_sheet", calls_sheet, 0 }, { "dw_write", calls_write, 0 }, { "dw_read", calls_read, 0 },
 };
-enum { PLACED = 3, OF_SHEETS = 10, CALLS = sizeof calls / sizeof calls[0] };
+enum { PLACED = 3, OF_SHEETS = 11, CALLS = sizeof calls / sizeof calls[0] };
 
 static int served = 1;
 
-/* Some of the calls one after the other; those behind dw_pair_at take its pair, and dw_read takes what dw_write wrote. */
+/* Some of the calls one after the other; those that take codes take the pair of dw_pair_at, and dw_read takes what
+ * dw_write wrote. */
 static void measure(size_t from, size_t to)
 {
     for (size_t i = from; i < to; i++) {
@@ -173,7 +180,7 @@ int main(void)
     }
 
     for (size_t i = 0; i < CALLS; i++) {
-        printf("%-17s %5zu bytes of stack\n", calls[i].name, calls[i].most - least);
+        printf("%-20s %5zu bytes of stack\n", calls[i].name, calls[i].most - least);
         most = calls[i].most - least > most ? calls[i].most - least : most;
     }
     if (!served)

@@ -1,4 +1,4 @@
-// Checksums of whole lists and of their chains' lengths, and positions found back.
+// Checksums of whole lists, of second lists and of chains' lengths, and positions found back.
 use crate::random::mixed;
 
 pub fn length(n: u32) -> u64 {
@@ -8,11 +8,15 @@ pub fn length(n: u32) -> u64 {
     }
 }
 
-fn pair(sum: u64, n: u32, position: u64) -> u64 {
-    match pairs::pair_at(n, position) {
+fn answered(sum: u64, answer: pairs::Found) -> u64 {
+    match answer {
         pairs::Found::Codes(f, g) => mixed(mixed(sum, f as u64), g as u64),
         pairs::Found::Refused(refusal) => mixed(sum, refusal.number() as u64),
     }
+}
+
+fn pair(sum: u64, n: u32, position: u64) -> u64 {
+    answered(sum, pairs::pair_at(n, position))
 }
 
 pub fn list_sum(n: u32) -> u64 {
@@ -21,6 +25,32 @@ pub fn list_sum(n: u32) -> u64 {
         sum = pair(sum, n, position);
     }
     sum
+}
+
+fn unordered_pair(sum: u64, n: u32, entry: u64) -> u64 {
+    answered(sum, unordered::pair_at(n, entry))
+}
+
+// The second list, and the refusal behind its end.
+pub fn unordered_sum(n: u32) -> u64 {
+    let entries = length(n) / 2;
+    let mut sum: u64 = 0;
+    for entry in 0..entries {
+        sum = unordered_pair(sum, n, entry);
+    }
+    unordered_pair(sum, n, entries)
+}
+
+// The last entry of degree 31, the one behind it, and two whose double does not fit 64 bits; degree 1, which has no entries; degrees 0 and
+// 32, which are refused.
+pub fn unordered_ends_sum() -> u64 {
+    let last = unordered_pair(0, 31, 384307168202282324);
+    let behind = unordered_pair(last, 31, 384307168202282325);
+    let wrapped = unordered_pair(behind, 31, 9223372036854775808);
+    let greatest = unordered_pair(wrapped, 31, 18446744073709551615);
+    let empty = unordered_pair(greatest, 1, 0);
+    let below = unordered_pair(empty, 0, 0);
+    unordered_pair(below, 32, 18446744073709551615)
 }
 
 // 1 if the pair at the position is found there again.

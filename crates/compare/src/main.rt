@@ -70,6 +70,22 @@ fn longest_lines() {
     }
 }
 
+// Degree, number of entries and checksum of a second list.
+fn unordered_line(n: u32) {
+    io::write_all(STDOUT_FILENO, b"unordered ");
+    number(n as u64);
+    io::write_all(STDOUT_FILENO, b" ");
+    number(lists::length(n) / 2);
+    io::write_all(STDOUT_FILENO, b" ");
+    line(lists::unordered_sum(n));
+}
+
+fn unordered_lines() {
+    for n in 2..11u32 {
+        unordered_line(n);
+    }
+}
+
 fn main() {
     line(checks::arithmetic_sum());
     line(checks::chain_sum());
@@ -77,6 +93,9 @@ fn main() {
     line(checks::sheet_sum());
     list_lines();
     longest_lines();
+    unordered_lines();
+    io::write_all(STDOUT_FILENO, b"unordered ends ");
+    line(lists::unordered_ends_sum());
     number(lists::spread_sum());
     io::write_all(STDOUT_FILENO, b" ");
     line(lists::spread_found());

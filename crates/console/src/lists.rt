@@ -8,8 +8,9 @@ ghost use mathlib.Core.Path.{_≡_};
 ghost use lib.ListN.{length};
 ghost use Rattle.console.specs.Status.{status, value};
 ghost use Rattle.poly.specs.Replies.{lengthReply};
-ghost use Rattle.pairs.specs.Replies.{pairAtReply};
+ghost use Rattle.pairs.specs.Replies.{foundReply, pairAtReply};
 ghost use Rattle.positions.specs.Replies.{positionReply};
+ghost use Rattle.unordered.specs.Replies.{unorderedReply};
 ghost use Rattle.listing.specs.Replies.{fromReply, fromContent};
 
 // The length of the list of degree n.
@@ -28,14 +29,12 @@ pub extern "C" fn dw_length(n: u32, pairs: &mut u64) -> u32
     }
 }
 
-// The pair at a position of the list of degree n.
-#[no_mangle]
-pub extern "C" fn dw_pair_at(n: u32, position: u64, f: &mut u32, g: &mut u32) -> u32
-    ensures { λ r. ⌜ r ≡ status (pairAtReply n position) ⌝ }
-    ensures { λ _. ⌜ now (f .exit) ≡ value 0 (pairAtReply n position) (now (f .entry)) ⌝ }
-    ensures { λ _. ⌜ now (g .exit) ≡ value 1 (pairAtReply n position) (now (g .entry)) ⌝ }
+// The status of this answer; if it is a pair, its codes are stored in f and g.
+fn passed_on(answer: Found, f: &mut u32, g: &mut u32) -> u32
+    ensures { λ r. ⌜ r ≡ status (foundReply answer) ⌝ }
+    ensures { λ _. ⌜ now (f .exit) ≡ value 0 (foundReply answer) (now (f .entry)) ⌝ }
+    ensures { λ _. ⌜ now (g .exit) ≡ value 1 (foundReply answer) (now (g .entry)) ⌝ }
 {
-    let answer = pairs::pair_at(n, position);
     match answer {
         Found::Refused(refusal) => refusal.number(),
         Found::Codes(first, second) => {
@@ -44,6 +43,28 @@ pub extern "C" fn dw_pair_at(n: u32, position: u64, f: &mut u32, g: &mut u32) ->
             0
         }
     }
+}
+
+// The pair at a position of the list of degree n.
+#[no_mangle]
+pub extern "C" fn dw_pair_at(n: u32, position: u64, f: &mut u32, g: &mut u32) -> u32
+    ensures { λ r. ⌜ r ≡ status (pairAtReply n position) ⌝ }
+    ensures { λ _. ⌜ now (f .exit) ≡ value 0 (pairAtReply n position) (now (f .entry)) ⌝ }
+    ensures { λ _. ⌜ now (g .exit) ≡ value 1 (pairAtReply n position) (now (g .entry)) ⌝ }
+{
+    let answer = pairs::pair_at(n, position);
+    passed_on(answer, f, g)
+}
+
+// The pair at an entry of the second list of degree n, in which each unordered pair stands once.
+#[no_mangle]
+pub extern "C" fn dw_unordered_pair_at(n: u32, entry: u64, f: &mut u32, g: &mut u32) -> u32
+    ensures { λ r. ⌜ r ≡ status (unorderedReply n entry) ⌝ }
+    ensures { λ _. ⌜ now (f .exit) ≡ value 0 (unorderedReply n entry) (now (f .entry)) ⌝ }
+    ensures { λ _. ⌜ now (g .exit) ≡ value 1 (unorderedReply n entry) (now (g .entry)) ⌝ }
+{
+    let found = unordered::pair_at(n, entry);
+    passed_on(found, f, g)
 }
 
 // The pairs from a position of the list of degree n on, f and g in turn, as many as fit into the slice; with their count.

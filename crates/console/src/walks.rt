@@ -32,7 +32,7 @@ fn started(n: u32) -> Outcome
     }
 }
 
-// What a look or a draw with this answer returns; a pair goes behind the two pointers.
+// The status of this answer to a look or a draw; if it is a pair, its codes are stored in f and g.
 fn passed_on(answer: Next, f: &mut u32, g: &mut u32) -> u32
     ensures { λ r. ⌜ r ≡ status (nextReply answer) ⌝ }
     ensures { λ _. ⌜ now (f .exit) ≡ value 0 (nextReply answer) (now (f .entry)) ⌝ }

@@ -19,8 +19,8 @@ use Rattle.pairs.proofs.Binomial.{choose-all}
 use Rattle.pairs.proofs.Compositions.{parts}
 use Rattle.pairs.proofs.Words.{count, count-closed}
 use Rattle.pairs.proofs.Blocks.{blockSize, blockRank, blockRank-lt, length-le}
-use Rattle.pairs.proofs.Sequences.{sequenceAt, sequenceRank, SequenceAt, sequenceAt-known, length-sequences}
-use Rattle.pairs.proofs.Pairs.{length-blocks, pairAt-is}
+use Rattle.pairs.proofs.Sequences.{sequenceAt, sequenceRank, SequenceAt}
+use Rattle.pairs.proofs.Pairs.{length-blocks, pairAt-is, sequence-known}
 use Rattle.pairs.proofs.Sequence.{valid-chain}
 use Rattle.longest.specs.Longest.{quotientsAt, longestAt}
 use Rattle.longest.specs.Claims.{LongestClaim}
@@ -51,7 +51,7 @@ length-parted (suc (suc n)) h =
 -- ---- the quotients of the pair at a position
 module _ (n j : ℕ) (below : j < length (pairs n)) where
   known : SequenceAt n j (sequenceAt n j)
-  known = sequenceAt-known n j (rw (length-blocks, ← length-sequences) at below)
+  known = sequence-known n j below
 
   quotients-are : quotientsAt n j ≡ suc (length (sequenceAt n j))
   unfolding quotientsAt

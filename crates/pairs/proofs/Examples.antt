@@ -11,7 +11,7 @@ use Rattle.pairs.specs.Pairs.{turn, build, pairs}
 use Rattle.pairs.proofs.Pairs.{length-pairs}
 
 infix 90 _and_
-abbrev _and_ : ℕ → ℕ → Pair
+abbrev pub _and_ : ℕ → ℕ → Pair
 _and_ a b = record { f = a; g = b }
 
 pub lengths : map (λ n. length (pairs n)) (1 ∷ 2 ∷ 3 ∷ 4 ∷ []) ≡ 0 ∷ 2 ∷ 10 ∷ 42 ∷ []

@@ -10,7 +10,7 @@ use Rattle.pairs.specs.Sequences.{sequences}
 use Rattle.euclid.specs.Chain.{Pair}
 use Rattle.pairs.specs.Pairs.{build, pairs}
 use Rattle.pairs.proofs.Loops.{before, listed-map}
-use Rattle.pairs.proofs.Sequences.{sequenceAt, listed-sequences, length-sequences}
+use Rattle.pairs.proofs.Sequences.{sequenceAt, SequenceAt, sequenceAt-known, listed-sequences, length-sequences}
 use Rattle.pairs.proofs.Blocks.{blockSize}
 use Rattle.pairs.proofs.Length.{length-tripled, length-closed, length-summed}
 
@@ -33,3 +33,7 @@ length-counted n = length-map (sequences n) build ∙ length-summed n
 pub pairAt-is : (n j : ℕ) (none : Pair) → j < length (pairs n) → getD (pairs n) j none ≡ build (sequenceAt n j)
 unfolding pairs
 pairAt-is n j none h = listed-map build none (listed-sequences n) .stands j (rw length-blocks at h)
+
+-- The sequence that the pair at a position is built from is valid, and has that position.
+pub sequence-known : (n j : ℕ) → j < length (pairs n) → SequenceAt n j (sequenceAt n j)
+sequence-known n j h = sequenceAt-known n j (rw (length-blocks, ← length-sequences) at h)

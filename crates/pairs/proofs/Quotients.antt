@@ -24,7 +24,7 @@ abbrev pub middle : List ℕ → ℕ
 middle [] = 0
 middle (q ∷ qs) = (q - 2 ^ degree 2 q) / 2 * 2 ^ bits (map (degree 2) qs) + middle qs
 
-pow-half : (d : ℕ) → 1 ≤ d → 2 ^ d ≡ 2 * 2 ^ (d - 1)
+pub pow-half : (d : ℕ) → 1 ≤ d → 2 ^ d ≡ 2 * 2 ^ (d - 1)
 pow-half zero h = absurd (omega arith)
 pow-half (suc d) h = rw (sub-one, pow-suc) (mul-comm (2 ^ d) 2)
 

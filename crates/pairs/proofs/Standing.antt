@@ -6,10 +6,13 @@ use Prim.Native.Nat.{ℕ, zero, suc, _%_, _≤_, _<_}
 use native.Mathlib.Nat.{lt-trans}
 use native.Mathlib.Decide.{ℕ-discrete}
 use native.Mathlib.Omega.{arith}
-use borrow.Author.Tests.{eq-eqb, ne-eqb, lt-leb}
-use lib.Dec.{eqb}
+use borrow.Author.Tests.{eq-eqb, ne-eqb, lt-leb, leb-false}
+use lib.Dec.{leb, eqb}
 use lib.ListN.{length, getD, length-map}
+use Rattle.reply.specs.Reply.{served, _gives_}
+use Rattle.reply.proofs.Order.{none-applies}
 use Rattle.poly.specs.Limits.{listLength}
+use Rattle.poly.specs.Causes.{degreeCause}
 use Rattle.poly.specs.Code.{HasDegree}
 use Rattle.poly.specs.Coprime.{gcd}
 use Rattle.poly.proofs.Ranges.{inside, Passed}
@@ -122,3 +125,14 @@ module _ (n : ℕ) (low : 1 ≤ n) (high : n ≤ 31) where
   pub pair-answers : (j : ℕ) → j < listLength n → pairAtReply n j ≡ pairReply (entry n j)
   unfolding pairAtReply
   pair-answers j h = rw (inside 1 31 low high, lt-leb (listLength n) j h)
+
+  -- where it gives f and g, these are the pair at that position of the list
+  pub pair-given : (j f g : ℕ) → pairAtReply n j ≡ served (f ∷ g ∷ []) → (j < listLength n) × (entry n j ≡ record { f = f; g = g })
+  unfolding pairAtReply
+  pair-given j f g e =
+      let (inner, (before-end, end)) = none-applies (degreeCause n ∷ leb (listLength n) j gives 2 ∷ []) _ _ e in
+      let h : j < listLength n = leb-false (listLength n) j before-end in
+      let given : served (entry n j .f ∷ entry n j .g ∷ []) ≡ served (f ∷ g ∷ []) = sym (pair-answers j h) ∙ e in
+      let ef : entry n j .f ≡ f = cc in
+      let eg : entry n j .g ≡ g = cc in
+      (h, λ i. record { f = ef i; g = eg i })

@@ -3,8 +3,8 @@ use mathlib.Core.Bool.{false}
 use mathlib.Core.List.{[], _∷_, _++_}
 use mathlib.Core.Path.{_≡_, refl, sym, ap, _∙_}
 use Prim.Native.Nat.{ℕ, _≤_, _<_}
-use borrow.Author.Tests.{leb-false, eq-eqb, eqb-true, not-false}
-use lib.Dec.{leb, eqb}
+use borrow.Author.Tests.{eq-eqb, eqb-true, not-false}
+use lib.Dec.{eqb}
 use lib.ListN.{length}
 use Rattle.reply.specs.Reply.{served, _gives_}
 use Rattle.reply.proofs.Order.{none-applies, none-refuses}
@@ -17,7 +17,7 @@ use Rattle.euclid.specs.Chain.{Pair}
 use Rattle.pairs.specs.Pairs.{pairs, entry, indexOf, CoprimePair}
 use Rattle.pairs.specs.Replies.{pairReply, pairAtReply}
 use Rattle.pairs.proofs.Pairs.{length-pairs}
-use Rattle.pairs.proofs.Standing.{entries-coprime, coprime-passed, coprime-stands, index-stands, pair-answers}
+use Rattle.pairs.proofs.Standing.{entries-coprime, coprime-passed, coprime-stands, index-stands, pair-answers, pair-given}
 use Rattle.positions.specs.Replies.{positionReply}
 use Rattle.positions.specs.Claims.{UndoClaim}
 
@@ -41,14 +41,9 @@ module _ (n : ℕ) (low : 1 ≤ n) (high : n ≤ 31) where
       ∙ ap (λ (v : ℕ). served (v ∷ [])) (index-stands n (entry n j) s ∙ sym (s .only j below refl))
 
   pair-found : (j f g : ℕ) → pairAtReply n j ≡ served (f ∷ g ∷ []) → positionReply n f g ≡ served (j ∷ [])
-  unfolding pairAtReply
   pair-found j f g e =
-      let (inner, (before-end, end)) = none-applies (degreeCause n ∷ leb (listLength n) j gives 2 ∷ []) _ _ e in
-      let h : j < listLength n = leb-false (listLength n) j before-end in
-      let given : served (entry n j .f ∷ entry n j .g ∷ []) ≡ served (f ∷ g ∷ []) = sym (pair-answers n low high j h) ∙ e in
-      let ef : entry n j .f ≡ f = cc in
-      let eg : entry n j .g ≡ g = cc in
-      sym (λ i. positionReply n (ef i) (eg i)) ∙ entry-found j h
+      let (h, is) = pair-given n low high j f g e in
+      sym (ap (λ (two : Pair). positionReply n (two .f) (two .g)) is) ∙ entry-found j h
 
   found-coprime : (j f g : ℕ) → positionReply n f g ≡ served (j ∷ []) → CoprimePair n (record { f = f; g = g })
   unfolding positionReply codeCauses

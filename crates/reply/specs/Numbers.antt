@@ -9,7 +9,7 @@ use Rattle.reply.specs.declared.Refusal.the-variants.{NameLength, NameBy
 abbrev pub numberOf : Refusal → ℕ
 -- degree outside 1 to 31 (sheet: 12 instead)
 numberOf DegreeRange = 1
--- position not below the list's length
+-- position not below the list's length; in the second list, entry not below half that length (document 02, request b)
 numberOf PositionRange = 2
 -- walk record with degree outside 1 to 31, or position above the length
 numberOf WalkRecord = 3

@@ -1,39 +1,29 @@
 -- `pair_at` meets its contract: the list's length tells whether the degree is refused, and then whether the position is.
-use mathlib.Core.Bool.{Bool, true, false}
-use mathlib.Core.List.{List, [], _∷_}
-use mathlib.Core.Path.{_≡_, refl, sym, ap, _∙_}
+use mathlib.Core.Bool.{false}
+use mathlib.Core.List.{[], _∷_}
+use mathlib.Core.Path.{_≡_, sym, ap, _∙_}
 use Prim.Native.Nat.{ℕ, _≤_, _<_}
-use native.Mathlib.Omega.{arith}
 use borrow.Author.Needs.{needs}
 use borrow.Author.Tests.{le-leb, lt-leb}
 use lib.ListN.{length, getD}
-use Rattle.reply.specs.Reply.{served, refused, _gives_, unless}
+use Rattle.reply.specs.Reply.{served, refused}
 use Rattle.poly.specs.Limits.{outside, listLength}
 use Rattle.poly.specs.Replies.{countReply, lengthReply}
-use Rattle.poly.proofs.Ranges.{within}
+use Rattle.poly.proofs.Ranges.{within, length-served, count-refused}
 use Rattle.pairs.specs.Pairs.{start, pairs}
 use Rattle.pairs.specs.Replies.{pairReply, pairAtReply}
 use Rattle.pairs.proofs.Pairs.{length-pairs}
 use Rattle.pairs.proofs.pair.pair_at.Statement.{statement}
 use Rattle.pairs.proofs.pair.pair_at.Tie as tie
 
--- whether a single cause applies, by the reply
-applies : {k : ℕ} (o : Bool) (values : List ℕ) → refused k ≡ unless (o gives 1 ∷ []) (served values) → (o ≡ true) × (k ≡ 1)
-applies true values e = (refl, cc)
-applies false values e = absurd (let z : _≡_ {A = ℕ} 0 1 = cc in omega arith)
-
-passes : {x y : ℕ} (o : Bool) → served (x ∷ []) ≡ unless (o gives 1 ∷ []) (served (y ∷ [])) → (o ≡ false) × (x ≡ y)
-passes true e = absurd (let z : _≡_ {A = ℕ} 0 1 = cc in omega arith)
-passes false e = (refl, cc)
-
 module _ (n position : ℕ) where
   bad-degree : {k : ℕ} → refused k ≡ lengthReply n → refused k ≡ pairAtReply n position
   unfolding pairAtReply
-  bad-degree e = let (out, one) = applies (outside 1 31 n) (listLength n ∷ []) e in rw (out, one)
+  bad-degree e = let (out, one) = count-refused n (listLength n) e in rw (out, one)
 
   module _ (length′ : ℕ) (e : served (length′ ∷ []) ≡ lengthReply n) where
     known : (outside 1 31 n ≡ false) × (length′ ≡ listLength n)
-    known = passes (outside 1 31 n) e
+    known = length-served n e
 
     bad-position : length′ ≤ position → refused 2 ≡ pairAtReply n position
     unfolding pairAtReply

@@ -1,0 +1,3 @@
+pub mod Unordered
+pub mod Replies
+pub mod Claims
