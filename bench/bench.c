@@ -12,7 +12,8 @@
 #include <stdlib.h>
 #include <time.h>
 
-enum { ROUNDS = 101, LIST_ROUNDS = 9, INPUTS = 32768, TRIALS = 1024, LIST_DEGREE = 11, SHEET_DEGREE = 6, SIDES = 2, LIST_PAIRS = 699050 };
+enum { ROUNDS = 101, LIST_ROUNDS = 9, INPUTS = 32768, TRIALS = 1024, LIST_DEGREE = 11, SHEET_DEGREE = 6, SIDES = 2, LIST_PAIRS = 699050,
+       WALKS = 16 };
 
 enum { LIBRARY, PLAIN };
 
@@ -36,7 +37,7 @@ typedef struct Trial {
 /* What a call answers, and the memory that it is lent, which both sides have at the same place of a cache line. */
 typedef struct Answer {
     uint32_t status, degree, codes[2], divisor, quotients[DW_CHAIN_ROOM];
-    uint64_t position, positions;
+    uint64_t position, positions, marks[DW_MARKS];
     size_t count, offset;
     _Alignas(64) uint16_t powers[DW_LEVELS_ROOM], forces[DW_LEVELS_ROOM];
     _Alignas(64) uint8_t bytes[DW_SHEET_ROOM];
@@ -145,7 +146,10 @@ static uint32_t (*const unordered_pair_at[SIDES])(uint32_t, uint64_t, uint32_t *
 static uint32_t (*const position_of[SIDES])(uint32_t, uint32_t, uint32_t, uint64_t *) = {dw_position_of, plain_position_of};
 static uint32_t (*const chain[SIDES])(uint32_t, uint32_t, uint32_t, uint32_t *, size_t, size_t *, uint32_t *) = {dw_chain, plain_chain};
 static uint32_t (*const longest_chains[SIDES])(uint32_t, uint64_t *, uint64_t *) = {dw_longest_chains, plain_longest_chains};
+static uint32_t (*const look[SIDES])(const dw_walk *, uint32_t *, uint32_t *) = {dw_look, plain_look};
 static uint32_t (*const draw[SIDES])(dw_walk *, uint32_t *, uint32_t *) = {dw_draw, plain_draw};
+static uint32_t (*const set_mark[SIDES])(dw_walk *, uint32_t) = {dw_set_mark, plain_set_mark};
+static uint32_t (*const go_back[SIDES])(dw_walk *, uint32_t) = {dw_go_back, plain_go_back};
 static uint32_t (*const site[SIDES])(uint32_t, uint32_t, uint32_t, uint32_t, uint32_t, uint32_t *, uint32_t *) = {dw_site, plain_site};
 static uint32_t (*const sheet[SIDES])(uint32_t, uint32_t, uint32_t, uint8_t *, size_t) = {dw_sheet, plain_sheet};
 static uint32_t (*const read_file[SIDES])(const uint8_t *, size_t, uint16_t *, size_t, uint16_t *, size_t, uint32_t *, uint32_t *,
@@ -197,15 +201,58 @@ static void run_longest_chains(int side, size_t from, size_t to)
         a->status = longest_chains[side](degree, &a->positions, &a->position);
 }
 
+/* A walk at the position of an input, with half of its marks set. */
+static dw_walk some_walk(size_t i)
+{
+    dw_walk walk = {degree, inputs[i].position, {0}};
+    for (size_t mark = 0; mark < DW_MARKS; mark += 2)
+        walk.marks[mark] = inputs[mark].position + 1;
+    return walk;
+}
+
+/* One record is lent to each look, put at the input's position. */
+static void run_look(int side, size_t from, size_t to)
+{
+    Answer *a = &answers[side];
+    dw_walk walk = some_walk(from);
+    for (size_t i = from; i < to; i++) {
+        walk.position = inputs[i].position;
+        a->status = look[side](&walk, &a->codes[0], &a->codes[1]);
+    }
+}
+
 /* One record is lent to each draw; behind the list's end it starts anew. */
 static void run_draw(int side, size_t from, size_t to)
 {
     Answer *a = &answers[side];
-    dw_walk walk = {degree, inputs[from].position};
+    dw_walk walk = some_walk(from);
     for (size_t i = from; i < to; i++)
         if ((a->status = draw[side](&walk, &a->codes[0], &a->codes[1])) == DW_SPENT)
             walk.position = 0;
     a->position = walk.position;
+    memcpy(a->marks, walk.marks, sizeof walk.marks);
+}
+
+/* Sixteen records are lent to the settings and the returns in turn, so that none is read just after it was written. */
+static void run_marks(uint32_t (*call)(dw_walk *, uint32_t), Answer *a, size_t from, size_t to)
+{
+    static dw_walk walks[WALKS];
+    for (size_t i = 0; i < WALKS; i++)
+        walks[i] = some_walk(from + i < INPUTS ? from + i : i);
+    for (size_t i = from; i < to; i++)
+        a->status = call(&walks[i % WALKS], (uint32_t)(2 * i) % DW_MARKS);
+    a->position = walks[from % WALKS].position;
+    memcpy(a->marks, walks[from % WALKS].marks, sizeof a->marks);
+}
+
+static void run_set_mark(int side, size_t from, size_t to)
+{
+    run_marks(set_mark[side], &answers[side], from, to);
+}
+
+static void run_go_back(int side, size_t from, size_t to)
+{
+    run_marks(go_back[side], &answers[side], from, to);
 }
 
 static void run_site(int side, size_t from, size_t to)
@@ -258,7 +305,10 @@ static const Job jobs[] = {
     {"position of", prepare_random, run_position_of, INPUTS, 0, GOAL},
     {"chain", prepare_codes, run_chain, INPUTS, 0, 1.1},
     {"longest chains", prepare_rising, run_longest_chains, INPUTS, 0, GOAL},
+    {"look", prepare_rising, run_look, INPUTS, 0, GOAL},
     {"draw", prepare_rising, run_draw, INPUTS, 0, GOAL},
+    {"set mark", prepare_random, run_set_mark, INPUTS, 0, GOAL},
+    {"go back", prepare_random, run_go_back, INPUTS, 0, GOAL},
     {"site", prepare_random, run_site, INPUTS, 0, GOAL},
     {"sheet", prepare_random, run_sheet, TRIALS, 1, GOAL},
     {"read", prepare_trials, run_read, TRIALS, 1, GOAL},

@@ -211,15 +211,66 @@ PLAIN_CALL plain_longest_chains(uint32_t n, uint64_t *count, uint64_t *first)
     return DW_SERVED;
 }
 
-PLAIN_CALL plain_draw(dw_walk *walk, uint32_t *f, uint32_t *g)
+/* The test of a record that every call on a walk makes. */
+static int plain_bad_walk(const dw_walk *walk)
 {
     uint32_t n = walk->degree;
     if (n < 1 || n > 31 || walk->position > plain_first[n][n + 1])
+        return 1;
+    int bad = 0;
+    for (int i = 0; i < DW_MARKS; i++)
+        bad |= walk->marks[i] > plain_first[n][n + 1] + 1;
+    return bad;
+}
+
+/* The pair at the walk's position. */
+static inline uint32_t plain_here(const dw_walk *walk, uint32_t *f, uint32_t *g)
+{
+    uint32_t n = walk->degree;
+    if (plain_bad_walk(walk))
         return DW_REFUSED_WALK_RECORD;
     if (walk->position == plain_first[n][n + 1])
         return DW_SPENT;
     plain_next_pair(n, walk->position, f, g);
+    return DW_SERVED;
+}
+
+PLAIN_CALL plain_look(const dw_walk *walk, uint32_t *f, uint32_t *g)
+{
+    return plain_here(walk, f, g);
+}
+
+PLAIN_CALL plain_draw(dw_walk *walk, uint32_t *f, uint32_t *g)
+{
+    uint32_t status = plain_here(walk, f, g);
+    if (status != DW_SERVED)
+        return status;
     walk->position++;
+    return DW_SERVED;
+}
+
+/* What refuses a call on a mark, whether it is empty or not. */
+static inline uint32_t plain_checked_mark(const dw_walk *walk, uint32_t mark)
+{
+    return plain_bad_walk(walk) ? DW_REFUSED_WALK_RECORD : mark >= DW_MARKS ? DW_REFUSED_MARK_RANGE : DW_SERVED;
+}
+
+PLAIN_CALL plain_set_mark(dw_walk *walk, uint32_t mark)
+{
+    uint32_t status = plain_checked_mark(walk, mark);
+    if (status == DW_SERVED)
+        walk->marks[mark] = walk->position + 1;
+    return status;
+}
+
+PLAIN_CALL plain_go_back(dw_walk *walk, uint32_t mark)
+{
+    uint32_t status = plain_checked_mark(walk, mark);
+    if (status != DW_SERVED)
+        return status;
+    if (walk->marks[mark] == 0)
+        return DW_REFUSED_MARK_EMPTY;
+    walk->position = walk->marks[mark] - 1;
     return DW_SERVED;
 }
 

@@ -9,7 +9,7 @@
 #include <stdio.h>
 #include <stdlib.h>
 
-/* The header's names are document 01's numbers: the rest of this file, and reference.h, speak in numbers. */
+/* The header's names are documents 01's and 02's numbers: the rest of this file, and reference.h, speak in numbers. */
 #ifdef __cplusplus
 #define CHECK(condition) static_assert(condition, #condition)
 #else
@@ -20,9 +20,9 @@ CHECK(DW_REFUSED_DEGREE_RANGE == 1 && DW_REFUSED_POSITION_RANGE == 2 && DW_REFUS
 CHECK(DW_REFUSED_SITE_RANGE == 5 && DW_REFUSED_CODE_DEGREE == 6 && DW_REFUSED_CONSTANT_TERM == 7 && DW_REFUSED_COMMON_FACTOR == 8);
 CHECK(DW_REFUSED_FILE_ENDS == 9 && DW_REFUSED_NUMBER_FORM == 10 && DW_REFUSED_VERSION == 11 && DW_REFUSED_SHEET_DEGREE == 12);
 CHECK(DW_REFUSED_LEVEL_RANGE == 13 && DW_REFUSED_LEVEL_REPEATED == 14 && DW_REFUSED_NAME_LENGTH == 15 && DW_REFUSED_NAME_BYTE == 16);
-CHECK(DW_REFUSED_TRAILING_BYTES == 17);
+CHECK(DW_REFUSED_TRAILING_BYTES == 17 && DW_REFUSED_MARK_RANGE == 18 && DW_REFUSED_MARK_EMPTY == 19 && DW_MARKS == 8);
 CHECK(DW_CHAIN_ROOM == 32 && DW_LEVELS_ROOM == 64 && DW_SHEET_ROOM == 8192 && DW_FILE_ROOM == 429 && DW_NAME_ROOM == 40);
-CHECK(DW_STACK_ROOM == 8192 && DW_VERSION_MAJOR == 2 && DW_VERSION_MINOR == 2 && DW_VERSION == 2002);
+CHECK(DW_STACK_ROOM == 8192 && DW_VERSION_MAJOR == 3 && DW_VERSION_MINOR == 0 && DW_VERSION == 3000);
 
 enum { SEED = 20261115, GUARD = 64, LARGEST = 1 << 14, SLOTS = 16 };
 
@@ -276,44 +276,149 @@ static void try_sheet(void)
     came_back(0, sheet, put, "dw_sheet: sheet");
 }
 
-/* The record where the call is served: its two fields. The padding between them is anyone's. */
-static void came_walk(int slot, uint32_t refused, uint32_t degree, uint64_t position, const char *what)
+/* The record where the call is served: its fields. The padding between them is anyone's. */
+static void came_walk(int slot, uint32_t refused, dw_walk want, const char *what)
 {
     dw_walk walk;
     memcpy(&walk, memory[slot].bytes + GUARD, sizeof walk);
-    expect(refused || (walk.degree == degree && walk.position == position), what);
+    int same = walk.degree == want.degree && walk.position == want.position && !memcmp(walk.marks, want.marks, sizeof want.marks);
+    expect(refused || same, what);
     came_back(slot, &walk, refused ? 0 : sizeof walk, what);
 }
 
-/* A look or a draw on a record, whatever it holds. */
-static void try_next(dw_walk walk, int moves)
+/* Number 3: a degree without a list, or the position or a set mark beyond its end. */
+static int bad_walk(dw_walk walk)
 {
-    uint64_t length = out_of_range(walk.degree) ? 0 : ref_length(walk.degree);
-    uint32_t want = out_of_range(walk.degree) || walk.position > length ? 3 : walk.position == length ? DW_SPENT : 0, f = 0, g = 0;
+    if (out_of_range(walk.degree))
+        return 1;
+    uint64_t length = ref_length(walk.degree);
+    int bad = walk.position > length;
+    for (int i = 0; i < 8; i++)
+        bad = bad || (walk.marks[i] != 0 && walk.marks[i] - 1 > length);
+    return bad;
+}
+
+/* A look or a draw on a record, whatever it holds; gives the record after it. */
+static dw_walk try_next(dw_walk walk, int moves)
+{
+    uint32_t f = 0, g = 0, want = bad_walk(walk) ? 3 : walk.position == ref_length(walk.degree) ? DW_SPENT : 0;
     if (want == 0)
         ref_pair(walk.degree, walk.position, &f, &g);
     dw_walk *place = (dw_walk *)lend_copy(0, &walk, sizeof walk);
     uint32_t *to_f = lend_u32(1), *to_g = lend_u32(2);
     count(moves ? dw_draw(place, to_f, to_g) : dw_look(place, to_f, to_g), want, moves ? "dw_draw" : "dw_look");
-    came_walk(0, moves ? want : 1, walk.degree, walk.position + 1, moves ? "dw_draw: walk" : "dw_look: walk");
+    walk.position += moves && want == 0;
+    came_walk(0, moves ? want : 1, walk, moves ? "dw_draw: walk" : "dw_look: walk");
     came_u32(1, want, f, "dw_draw, dw_look: f");
     came_u32(2, want, g, "dw_draw, dw_look: g");
+    return walk;
 }
 
-/* Looks and draws on one record that is put near the end of the list, beyond it, or anywhere. */
+/* The same for setting a mark and for going back to one. */
+static dw_walk try_mark(dw_walk walk, uint32_t mark, int back)
+{
+    uint32_t want = bad_walk(walk) ? 3 : mark > 7 ? 18 : back && walk.marks[mark] == 0 ? 19 : 0;
+    dw_walk *place = (dw_walk *)lend_copy(0, &walk, sizeof walk);
+    count(back ? dw_go_back(place, mark) : dw_set_mark(place, mark), want, back ? "dw_go_back" : "dw_set_mark");
+    if (want == 0 && back)
+        walk.position = walk.marks[mark] - 1;
+    else if (want == 0)
+        walk.marks[mark] = walk.position + 1;
+    came_walk(0, want, walk, back ? "dw_go_back: walk" : "dw_set_mark: walk");
+    return walk;
+}
+
+static uint32_t some_mark(void)
+{
+    return draw(8) ? draw(8) : draw(2) ? 8 + draw(2) : UINT32_MAX - draw(2);
+}
+
+/* Any of the four calls. */
+static dw_walk try_call(dw_walk walk)
+{
+    int second = (int)draw(2);
+    return draw(2) ? try_next(walk, second) : try_mark(walk, some_mark(), second);
+}
+
+/* Calls on one record that is put near the end of the list, beyond it, or anywhere, with marks that are empty, anywhere, at the end or,
+ * now and then, beyond it. */
 static void try_walk(void)
 {
     uint32_t n = some_degree(1, 31), want = out_of_range(n) ? 1 : 0;
+    uint64_t length = want ? 0 : ref_length(n);
     dw_walk walk;
     memset(&walk, 0, sizeof walk);
-    count(dw_start(n, (dw_walk *)lend(0, sizeof walk)), want, "dw_start");
-    came_walk(0, want, n, 0, "dw_start: walk");
-    uint64_t length = out_of_range(n) ? 0 : ref_length(n);
     walk.degree = n;
+    count(dw_start(n, (dw_walk *)lend(0, sizeof walk)), want, "dw_start");
+    came_walk(0, want, walk, "dw_start: walk");
     walk.position = draw(2) ? length - draw(3) + draw(3) : length ? draw64() % length : draw64();
-    for (int i = 0; i < 4; i++) {
-        try_next(walk, (int)draw(2));
-        memcpy(&walk, memory[0].bytes + GUARD, sizeof walk);
+    for (int i = 0; i < 8; i++)
+        walk.marks[i] = draw(2) ? 0 : draw(2) ? 1 + draw64() % (length + 1) : draw(16) ? length + draw(2) : length + 2 + draw64() % 3;
+    for (int i = 0; i < 8; i++)
+        walk = try_call(walk);
+}
+
+/* Stored marks at the end of a list and beyond it: L and L + 1 are good, L + 2 and 2^64 - 1 are not, in each mark and for each call. */
+static void marks_at_the_end(void)
+{
+    static const uint32_t marks[] = { 0, 7, 8, UINT32_MAX };
+    for (uint32_t n = 0; n <= 32; n++)
+        for (int at = 0; at < 8; at++)
+            for (int i = 0; i < 10; i++) {
+                uint64_t length = out_of_range(n) ? 0 : ref_length(n), stored[] = { 0, length, length + 1, length + 2, UINT64_MAX };
+                dw_walk walk;
+                memset(&walk, 0, sizeof walk);
+                walk.degree = n;
+                walk.position = i % 2 ? length : 0;
+                walk.marks[at] = stored[i / 2];
+                for (int second = 0; second < 2; second++) {
+                    try_next(walk, second);
+                    for (int k = 0; k < 4; k++)
+                        try_mark(walk, marks[k], second);
+                }
+            }
+}
+
+/* A walk of many calls from a start on, against a model that sees the calls alone: where the walk is, and which of its marks are set and to
+ * what place. A pair comes again only after a return. The record has no guard bytes here. */
+static void try_marked_walk(void)
+{
+    static uint32_t drawn_in[64][64];
+    uint32_t n = 1 + draw(5), returns = 1, f, g, pair[2];
+    uint64_t length = ref_length(n), place = 0, marked[8] = { 0 };
+    int set[8] = { 0 };
+    dw_walk walk;
+    memset(drawn_in, 0, sizeof drawn_in);
+    count(dw_start(n, &walk), 0, "marked walk: start");
+    for (int i = 0; i < 600; i++) {
+        uint32_t kind = draw(24), mark = some_mark();
+        if (kind == 0) {
+            count(dw_set_mark(&walk, mark), mark > 7 ? 18 : 0, "marked walk: set");
+            if (mark <= 7) {
+                set[mark] = 1;
+                marked[mark] = place;
+            }
+        } else if (kind == 1) {
+            count(dw_go_back(&walk, mark), mark > 7 ? 18 : set[mark] ? 0 : 19, "marked walk: back");
+            if (mark <= 7 && set[mark]) {
+                place = marked[mark];
+                returns++;
+            }
+        } else {
+            count(kind < 5 ? dw_look(&walk, &f, &g) : dw_draw(&walk, &f, &g), place == length ? DW_SPENT : 0, "marked walk: next");
+            if (place < length) {
+                ref_pair(n, place, &pair[0], &pair[1]);
+                expect(f == pair[0] && g == pair[1], "marked walk: pair");
+            }
+            if (place < length && kind >= 5) {
+                place++;
+                expect(drawn_in[f][g] != returns, "marked walk: repeat");
+                drawn_in[f][g] = returns;
+            }
+        }
+        expect(walk.degree == n && walk.position == place, "marked walk: position");
+        for (int m = 0; m < 8; m++)
+            expect(walk.marks[m] == (set[m] ? marked[m] + 1 : 0), "marked walk: marks");
     }
 }
 
@@ -700,6 +805,7 @@ int main(int argc, char **argv)
     part("repeated levels", repeated_levels, 1, 14, 14, bit(7) | bit(9));
     part("null pointers", null_pointers, 1, 2, 2, four | bit(9));
     part("kept record", kept_record, 1, 3, 3, spent);
+    part("marks at the end", marks_at_the_end, 1, 18, 19, bit(3) | spent);
     part("dw_length", try_length, 100 * scale, 1, 1, 0);
     part("dw_pair_at", try_pair_at, 300 * scale, 1, 2, 0);
     part("dw_unordered_pair_at", try_unordered_pair_at, 300 * scale, 1, 2, 0);
@@ -709,7 +815,8 @@ int main(int argc, char **argv)
     part("dw_longest_chains", try_longest_chains, 10 * scale, 1, 1, 0);
     part("dw_site", try_site, 300 * scale, 5, 7, one);
     part("dw_sheet", try_sheet, 20 * scale, 6, 8, four | twelve);
-    part("the walk", try_walk, 100 * scale, 3, 3, one | spent);
+    part("the walk", try_walk, 50 * scale, 18, 19, one | bit(3) | spent);
+    part("marked walks", try_marked_walk, scale, 18, 19, spent);
     part("dw_write", try_write, 200 * scale, 14, 16, four | codes | twelve);
     part("dw_read", try_read, 200 * scale, 6, 17, four);
     return 0;

@@ -311,6 +311,32 @@ def unordered():
     print("unordered ends", mixed(0, *pair_at(31, 2 * (4**30 - 1) // 3 - 2), 2, 2, 2, 2, 1, 1))
 
 
+def walks():
+    """For each degree a checksum of what a start and 3000 calls answer, and of the position after them: the calls draw, but for every sixteenth,
+    which sets one of the marks 0 to 8, and every 64th, which goes back to one. Degrees 0 and 32 get 1 and then always 3."""
+    for n in (*range(9), 32):
+        if n in (0, 32):
+            print("walk", n, mixed(0, 1, *[3] * 3000, 0))
+            continue
+        entries, place, marks, total = coprime_pairs(n), 0, {}, mixed(0, 0)
+        for i in range(3000):
+            if i % 64 == 45:
+                mark = i // 64 % 9
+                total = mixed(total, 18 if mark == 8 else 0 if mark in marks else 19)
+                place = marks.get(mark, place)
+            elif i % 16 == 5:
+                mark = i // 16 % 9
+                total = mixed(total, 18 if mark == 8 else 0)
+                if mark < 8:
+                    marks[mark] = place
+            elif place < len(entries):
+                total = mixed(total, *entries[place])
+                place += 1
+            else:
+                total = mixed(total, 255)
+        print("walk", n, mixed(total, place))
+
+
 def spread():
     """A hundred positions spread over the list of degree 31, the last one, and the refusal behind it."""
     total, length = 0, 2 * (4**30 - 1) // 3
@@ -327,6 +353,7 @@ if __name__ == "__main__":
     lists(int(sys.argv[1]) if len(sys.argv) > 1 else 12)
     chain_lengths()
     unordered()
+    walks()
     print(spread(), 101)
     print(damaged())
     print(entries())

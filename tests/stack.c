@@ -115,6 +115,16 @@ static void calls_draw(void)
     status = dw_draw(&walk, &first, &second);
 }
 
+static void calls_set_mark(void)
+{
+    status = dw_set_mark(&walk, n % DW_MARKS);
+}
+
+static void calls_go_back(void)
+{
+    status = dw_go_back(&walk, n % DW_MARKS);
+}
+
 static struct {
     const char *name;
     void (*job)(void);
@@ -124,11 +134,11 @@ static struct {
     /* With a position. */
     { "dw_pair_at", calls_pair_at, 0 }, { "dw_unordered_pair_at", calls_unordered_pair_at, 0 }, { "dw_pairs_from", calls_pairs_from, 0 },
     { "dw_position_of", calls_position_of, 0 }, { "dw_chain", calls_chain, 0 }, { "dw_site", calls_site, 0 },
-    { "dw_look", calls_look, 0 }, { "dw_draw", calls_draw, 0 },
+    { "dw_look", calls_look, 0 }, { "dw_draw", calls_draw, 0 }, { "dw_set_mark", calls_set_mark, 0 }, { "dw_go_back", calls_go_back, 0 },
     /* With a degree of sheets. */
     { "dw_sheet", calls_sheet, 0 }, { "dw_write", calls_write, 0 }, { "dw_read", calls_read, 0 },
 };
-enum { PLACED = 3, OF_SHEETS = 11, CALLS = sizeof calls / sizeof calls[0] };
+enum { PLACED = 3, OF_SHEETS = 13, CALLS = sizeof calls / sizeof calls[0] };
 
 static int served = 1;
 

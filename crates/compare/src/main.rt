@@ -3,6 +3,7 @@ mod checks;
 mod files;
 mod lists;
 mod random;
+mod walks;
 
 use libc::STDOUT_FILENO;
 
@@ -86,6 +87,21 @@ fn unordered_lines() {
     }
 }
 
+// Degree and checksum of a walk with marks; degrees 0 and 32 are refused throughout.
+fn walk_line(n: u32) {
+    io::write_all(STDOUT_FILENO, b"walk ");
+    number(n as u64);
+    io::write_all(STDOUT_FILENO, b" ");
+    line(walks::walk_sum(n));
+}
+
+fn walk_lines() {
+    for n in 0..9u32 {
+        walk_line(n);
+    }
+    walk_line(32);
+}
+
 fn main() {
     line(checks::arithmetic_sum());
     line(checks::chain_sum());
@@ -96,6 +112,7 @@ fn main() {
     unordered_lines();
     io::write_all(STDOUT_FILENO, b"unordered ends ");
     line(lists::unordered_ends_sum());
+    walk_lines();
     number(lists::spread_sum());
     io::write_all(STDOUT_FILENO, b" ");
     line(lists::spread_found());

@@ -3,15 +3,15 @@
 use mathlib.Core.Path.{_≡_, refl, sym, ap, subst, _∙_}
 use mathlib.Core.Bool.{Bool, true, false, not}
 use mathlib.Core.List.{List, [], _∷_}
-use Prim.Native.Nat.{ℕ}
+use Prim.Native.Nat.{ℕ, _+_}
 use native.Mathlib.Omega.{arith}
 use lib.Dec.{T, T-not, eqb, eqb→eq}
 use Rattle.reply.specs.Reply.{Reply, served, refused, spent, _gives_, unless, after}
 use Rattle.poly.specs.Limits.{outside}
 use Rattle.walk.specs.declared.Walk.{Walk}
-use Rattle.walk.specs.Walks.{begun, startReply, lookReply, afterDraw}
+use Rattle.walk.specs.Walks.{begun, startReply, lookReply, afterDraw, setMarkReply, afterSetMark, goBackReply, afterGoBack}
 use Rattle.console.specs.Status.{status, value}
-use Rattle.console.specs.Records.{Starts, Draws}
+use Rattle.console.specs.Records.{Starts, Draws, SetsMark, GoesBack}
 
 -- the reply to a call, from the answer that its contract speaks of and the variant that the answer is known to be
 pub told : {A : Type 0} (reply : A → Reply) {answer variant : A} {expected : Reply} → answer ≡ variant → reply answer ≡ expected
@@ -58,6 +58,28 @@ module _ {n s : ℕ} {walk′ : Walk} (walk : Walk) (e : Starts n (begun 0) walk
     stored = unserved-after (startReply n) (unserved s (startReply n) (e .returned) t) (begun n) walk;
   }
 
+-- a draw changes the position alone
+abbrev pub moved : Walk → ℕ → Walk
+moved walk position = record { degree = walk .degree; position = position; marks = walk .marks }
+
+moved-after : (walk : Walk) → moved walk (afterDraw walk .position) ≡ afterDraw walk
+unfolding afterDraw
+moved-after walk = go (lookReply walk)
+  where
+    go : (reply : Reply) → let w : Walk = after reply (moved walk (walk .position + 1)) walk in moved walk (w .position) ≡ w
+    go (served values) = refl
+    go (refused number) = refl
+    go spent = refl
+
+pub draw-moved : {walk walk′ : Walk} {f g f′ g′ s : ℕ} → Draws walk walk′ f g f′ g′ s
+    → Draws walk (moved walk (walk′ .position)) f g f′ g′ s
+draw-moved {walk} e = record {
+  returned = e .returned;
+  moved = ap (λ (w : Walk). moved walk (w .position)) (e .moved) ∙ moved-after walk;
+  first = e .first;
+  second = e .second;
+}
+
 pub draw-unserved : {walk walk′ : Walk} {f g f′ g′ s : ℕ} → Draws walk walk′ f g f′ g′ s → T (not (eqb s 0)) → Draws walk walk f g f′ g′ s
 unfolding afterDraw
 draw-unserved {walk} {s = s} e t = record {
@@ -65,4 +87,18 @@ draw-unserved {walk} {s = s} e t = record {
   moved = unserved-after (lookReply walk) (unserved s (lookReply walk) (e .returned) t) _ walk;
   first = e .first;
   second = e .second;
+}
+
+pub set-unserved : (walk walk′ : Walk) (mark s : ℕ) → SetsMark walk mark walk′ s → T (not (eqb s 0)) → SetsMark walk mark walk s
+unfolding afterSetMark
+set-unserved walk walk′ mark s e t = record {
+  returned = e .returned;
+  stored = unserved-after (setMarkReply walk mark) (unserved s (setMarkReply walk mark) (e .returned) t) _ walk;
+}
+
+pub back-unserved : (walk walk′ : Walk) (mark s : ℕ) → GoesBack walk mark walk′ s → T (not (eqb s 0)) → GoesBack walk mark walk s
+unfolding afterGoBack
+back-unserved walk walk′ mark s e t = record {
+  returned = e .returned;
+  stored = unserved-after (goBackReply walk mark) (unserved s (goBackReply walk mark) (e .returned) t) _ walk;
 }

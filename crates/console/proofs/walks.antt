@@ -1,2 +1,3 @@
 -- What the proofs of this module's functions share.
 mod Lent
+mod Marking

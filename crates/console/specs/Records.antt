@@ -8,7 +8,7 @@ use Rattle.trial.specs.Parser.{Parsed}
 use Rattle.trial.specs.Trial.{Trial}
 use Rattle.trial.specs.Replies.{read, readReply, nameRead, levelsAfter, writeReply, fileAfter}
 use Rattle.walk.specs.declared.Walk.{Walk}
-use Rattle.walk.specs.Walks.{begun, startReply, lookReply, afterDraw}
+use Rattle.walk.specs.Walks.{begun, startReply, lookReply, afterDraw, setMarkReply, afterSetMark, goBackReply, afterGoBack}
 use Rattle.console.specs.Status.{status, value}
 
 -- What reading a file gives, with these two slices lent for the levels.
@@ -36,6 +36,15 @@ pub record Draws (walk walk′ : Walk) (f g f′ g′ r : ℕ) : Type 0 where
   pub moved : walk′ ≡ afterDraw walk
   pub first : f′ ≡ value 0 (lookReply walk) f
   pub second : g′ ≡ value 1 (lookReply walk) g
+
+-- Setting a mark, and going back to one: what it returns, and the record after it.
+pub record SetsMark (walk : Walk) (mark : ℕ) (walk′ : Walk) (r : ℕ) : Type 0 where
+  pub returned : r ≡ status (setMarkReply walk mark)
+  pub stored : walk′ ≡ afterSetMark walk mark
+
+pub record GoesBack (walk : Walk) (mark : ℕ) (walk′ : Walk) (r : ℕ) : Type 0 where
+  pub returned : r ≡ status (goBackReply walk mark)
+  pub stored : walk′ ≡ afterGoBack walk mark
 
 -- Reading a file: what it returns, the two slices of levels after it, and what stands behind the five pointers after it, with what stood
 -- there before; and that the part of the file which the last two point at is the name.

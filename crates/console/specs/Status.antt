@@ -3,7 +3,7 @@ use Prim.Native.Nat.{ℕ}
 use lib.ListN.{getD}
 use Rattle.reply.specs.Reply.{Reply, served, refused, spent}
 
--- 0 for served, document 01's number for refused; spent gets 255, which is no refusal's number.
+-- 0 for served, the papers' number for refused; spent gets 255, which is no refusal's number.
 abbrev pub status : Reply → ℕ
 status (served values) = 0
 status (refused number) = number

@@ -1,4 +1,4 @@
-// The library's calls for C. The return value is 0 for served, document 01's number for refused and 255 for spent. What stands behind a
+// The library's calls for C. The return value is 0 for served, the papers' number for refused and 255 for spent. What stands behind a
 // pointer changes only where the call is served.
 mod chains;
 mod files;

@@ -1,28 +1,28 @@
 // Walks, for C. An exported function that takes a lent record is proved by hand, over a core that takes and gives the record by value.
 use walk::Change;
+use walk::Changed;
 use walk::Next;
 use walk::Walk;
 ghost use mathlib.Core.Path.{_≡_};
-ghost use Rattle.walk.specs.Walks.{begun, nextReply};
+ghost use Rattle.walk.specs.Walks.{begun, changeReply, nextReply};
 ghost use Rattle.console.specs.Status.{status, value};
-ghost use Rattle.console.specs.Records.{Starts, Looks, Draws};
+ghost use Rattle.console.specs.Records.{Starts, Looks, Draws, SetsMark, GoesBack};
 
 // What look and draw return at the end of a list.
 const SPENT: u32 = 255;
 
-// What a start or a draw returns, and the record to store where that is 0.
+// What a call that changes a record returns, and the record to store where that is 0.
 struct Outcome {
     status: u32,
     walk: Walk,
 }
 
-// Where a start is refused, its record is served by no call, and is not stored.
-fn started(n: u32) -> Outcome
-    ensures { λ r. ⌜ Starts n (begun 0) (r .walk) (r .status) ⌝ }
+// The status of this answer, and its record.
+fn outcome_of(changed: Changed) -> Outcome
+    ensures { λ r. ⌜ (r .status ≡ status (changeReply (changed .answer))) × (r .walk ≡ changed .walk) ⌝ }
 {
-    let start = walk::start(n);
-    let answer = start.answer;
-    let walk = start.walk;
+    let answer = changed.answer;
+    let walk = changed.walk;
     match answer {
         Change::Refused(refusal) => Outcome {
             status: refusal.number(),
@@ -30,6 +30,28 @@ fn started(n: u32) -> Outcome
         },
         Change::Done => Outcome { status: 0, walk },
     }
+}
+
+// Where a start is refused, its record is served by no call, and is not stored.
+fn started(n: u32) -> Outcome
+    ensures { λ r. ⌜ Starts n (begun 0) (r .walk) (r .status) ⌝ }
+{
+    let start = walk::start(n);
+    outcome_of(start)
+}
+
+fn marked(walk: Walk, mark: u32) -> Outcome
+    ensures { λ r. ⌜ SetsMark walk mark (r .walk) (r .status) ⌝ }
+{
+    let set = walk.set_mark(mark);
+    outcome_of(set)
+}
+
+fn gone_back(walk: Walk, mark: u32) -> Outcome
+    ensures { λ r. ⌜ GoesBack walk mark (r .walk) (r .status) ⌝ }
+{
+    let back = walk.go_back(mark);
+    outcome_of(back)
 }
 
 // The status of this answer to a look or a draw; if it is a pair, its codes are stored in f and g.
@@ -76,7 +98,10 @@ pub extern "C" fn dw_start(n: u32, walk: &mut Walk) -> u32
 {
     let outcome = started(n);
     if outcome.status == 0 {
-        *walk = outcome.walk;
+        // Field by field, so that no padding is copied: the compiler then writes the record at once.
+        walk.degree = outcome.walk.degree;
+        walk.position = outcome.walk.position;
+        walk.marks = outcome.walk.marks;
     }
     outcome.status
 }
@@ -98,6 +123,33 @@ pub extern "C" fn dw_draw(walk: &mut Walk, f: &mut u32, g: &mut u32) -> u32
 {
     let here = *walk;
     let outcome = drawn(here, f, g);
+    if outcome.status == 0 {
+        // All that a draw changes: the marks need not be written back.
+        walk.position = outcome.walk.position;
+    }
+    outcome.status
+}
+
+// The position of a walk that the console lends, stored in one of its marks.
+#[no_mangle]
+pub extern "C" fn dw_set_mark(walk: &mut Walk, mark: u32) -> u32
+    ensures { λ r. ⌜ SetsMark (now (walk .entry)) mark (now (walk .exit)) r ⌝ }
+{
+    let here = *walk;
+    let outcome = marked(here, mark);
+    if outcome.status == 0 {
+        *walk = outcome.walk;
+    }
+    outcome.status
+}
+
+// The marked position taken up in a walk that the console lends.
+#[no_mangle]
+pub extern "C" fn dw_go_back(walk: &mut Walk, mark: u32) -> u32
+    ensures { λ r. ⌜ GoesBack (now (walk .entry)) mark (now (walk .exit)) r ⌝ }
+{
+    let here = *walk;
+    let outcome = gone_back(here, mark);
     if outcome.status == 0 {
         *walk = outcome.walk;
     }

@@ -16,7 +16,8 @@ use Rattle.positions.proofs.Undo.{entry-found}
 use Rattle.squares.specs.Symbols.{symbol}
 use Rattle.squares.specs.Replies.{siteCauses, siteReply}
 use Rattle.squares.proofs.Claims.{squares-orthogonal}
-use Rattle.walk.proofs.Walking.{walked-from-start}
+use Rattle.walk.specs.Walks.{begun}
+use Rattle.walk.proofs.Claims.{begun-sound, walk-goes-on, plain}
 use Rattle.planner.specs.Demand.{Polynomial, DemandThree}
 
 module _ (n : ℕ) (low : 1 ≤ n) (high : n ≤ 31) where
@@ -32,11 +33,16 @@ module _ (n : ℕ) (low : 1 ≤ n) (high : n ≤ 31) where
 
 pub demand-three : DemandThree
 demand-three n low high =
+    let goes-on = walk-goes-on (begun n) (begun-sound n low high) in
     let list = list-complete n low in
     let long : length (pairs n) ≡ listLength n = list .long in
     record {
       begins = rw (inside 1 31 low high) (refl, refl);
-      walk = walked-from-start n low high;
+      walk = λ calls. goes-on calls .walked;
+      runs-on = λ calls. goes-on calls .runs-on;
+      no-repeat = λ calls. goes-on calls .no-repeat;
+      comes-back = λ calls. goes-on calls .comes-back;
+      plain = plain n low high;
       long = long;
       pair = pair-answers n low high;
       found = entry-found n low high;

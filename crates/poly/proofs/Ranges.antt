@@ -12,7 +12,7 @@ use Rattle.poly.specs.Code.{HasDegree}
 use Rattle.poly.specs.Limits.{outside, listLength}
 use Rattle.poly.specs.Replies.{lengthReply}
 use Rattle.reply.specs.Reply.{Cause, served, refused, unless}
-use Rattle.reply.proofs.Order.{NoneApplies}
+use Rattle.reply.proofs.Order.{NoneApplies, sole-served, sole-refused}
 use Rattle.poly.specs.Causes.{degreeCause, offDegree, codeCauses}
 
 module _ (low high : ℕ) {n : ℕ} where
@@ -90,19 +90,11 @@ codes-pass n f g more p rest =
 -- ---- a reply that the degree alone refuses
 pub count-served : (n value : ℕ) {x : ℕ} → served (x ∷ []) ≡ unless (degreeCause n ∷ []) (served (value ∷ []))
     → (outside 1 31 n ≡ false) × (x ≡ value)
-count-served n value {x} h = go (outside 1 31 n) refl
-  where
-    go : (b : Bool) → outside 1 31 n ≡ b → (outside 1 31 n ≡ false) × (x ≡ value)
-    go true e = absurd (let r = rw e at h in let z : _≡_ {A = ℕ} 0 1 = cc in omega arith)
-    go false e = let r = rw e at h in (e, cc)
+count-served n value h = let (inside, e) = sole-served (outside 1 31 n) 1 (served (value ∷ [])) h in (inside, cc)
 
 pub count-refused : (n value : ℕ) {k : ℕ} → refused k ≡ unless (degreeCause n ∷ []) (served (value ∷ []))
     → (outside 1 31 n ≡ true) × (k ≡ 1)
-count-refused n value {k} h = go (outside 1 31 n) refl
-  where
-    go : (b : Bool) → outside 1 31 n ≡ b → (outside 1 31 n ≡ true) × (k ≡ 1)
-    go true e = let r = rw e at h in (e, cc)
-    go false e = absurd (let r = rw e at h in let z : _≡_ {A = ℕ} 0 1 = cc in omega arith)
+count-refused n value h = sole-refused (outside 1 31 n) 1 (value ∷ []) h
 
 pub length-served : (n : ℕ) {length : ℕ} → served (length ∷ []) ≡ lengthReply n → (outside 1 31 n ≡ false) × (length ≡ listLength n)
 length-served n = count-served n (listLength n)

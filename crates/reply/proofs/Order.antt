@@ -1,5 +1,5 @@
 -- Causes tried in groups: a group that a check has passed drops out, and one that it has failed decides.
-use mathlib.Core.Bool.{true, false}
+use mathlib.Core.Bool.{Bool, true, false}
 use mathlib.Core.List.{List, [], _∷_, _++_}
 use mathlib.Core.Path.{_≡_, refl, ap}
 use Prim.Native.Nat.{ℕ}
@@ -34,3 +34,21 @@ none-refuses ((applies gives k) ∷ causes) reply (e, t) = rw e (none-refuses ca
 -- a refusal leaves lent memory as it was
 pub kept {ℓ} : {A : Type ℓ} {k : ℕ} {reply : Reply} → refused k ≡ reply → (new old : A) → old ≡ after reply new old
 kept e new old = ap (λ (r : Reply). after r new old) e
+
+-- a reply that one cause alone refuses
+module _ (applies : Bool) (number : ℕ) where
+  pub sole-served : (reply : Reply) {values : List ℕ} → served values ≡ unless (applies gives number ∷ []) reply
+      → (applies ≡ false) × (served values ≡ reply)
+  sole-served reply {values} e = go applies e
+    where
+      go : (b : Bool) → served values ≡ unless (b gives number ∷ []) reply → (b ≡ false) × (served values ≡ reply)
+      go true e = absurd (let z : _≡_ {A = ℕ} 0 1 = cc in omega arith)
+      go false e = (refl, e)
+
+  pub sole-refused : (values : List ℕ) {k : ℕ} → refused k ≡ unless (applies gives number ∷ []) (served values)
+      → (applies ≡ true) × (k ≡ number)
+  sole-refused values {k} e = go applies e
+    where
+      go : (b : Bool) → refused k ≡ unless (b gives number ∷ []) (served values) → (b ≡ true) × (k ≡ number)
+      go true e = (refl, cc)
+      go false e = absurd (let z : _≡_ {A = ℕ} 0 1 = cc in omega arith)

@@ -1,17 +1,18 @@
--- Document 01, "Turned down, by who can cause it": the number of each refusal.
+-- Document 01, "Turned down, by who can cause it", and document 02: the number of each refusal.
 use Prim.Native.Nat.{ℕ}
 use Rattle.reply.specs.declared.Refusal.{Refusal}
 use Rattle.reply.specs.declared.Refusal.the-variants.{DegreeRange, PositionRange, WalkRecord, SliceLength, SiteRange}
 use Rattle.reply.specs.declared.Refusal.the-variants.{CodeDegree, ConstantTerm, CommonFactor}
 use Rattle.reply.specs.declared.Refusal.the-variants.{FileEnds, NumberForm, Version, SheetDegree, LevelRange, LevelRepeated}
 use Rattle.reply.specs.declared.Refusal.the-variants.{NameLength, NameByte, TrailingBytes}
+use Rattle.reply.specs.declared.Refusal.the-variants.{MarkRange, MarkEmpty}
 
 abbrev pub numberOf : Refusal → ℕ
 -- degree outside 1 to 31 (sheet: 12 instead)
 numberOf DegreeRange = 1
 -- position not below the list's length; in the second list, entry not below half that length (document 02, request b)
 numberOf PositionRange = 2
--- walk record with degree outside 1 to 31, or position above the length
+-- walk record with degree outside 1 to 31, position above the length, or a set mark beyond the length (document 02, request c)
 numberOf WalkRecord = 3
 -- a lent slice too short; for the writer also a level list not of length 2^n
 numberOf SliceLength = 4
@@ -41,3 +42,7 @@ numberOf NameLength = 15
 numberOf NameByte = 16
 -- bytes after the name
 numberOf TrailingBytes = 17
+-- mark above 7 (document 02, request c)
+numberOf MarkRange = 18
+-- going back to an empty mark (document 02, request c)
+numberOf MarkEmpty = 19

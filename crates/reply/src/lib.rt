@@ -23,10 +23,13 @@ pub enum Refusal {
     NameLength,
     NameByte,
     TrailingBytes,
+    // Caused by the console.
+    MarkRange,
+    MarkEmpty,
 }
 
 impl Refusal {
-    // The number that document 01 gives for the refusal.
+    // The number that documents 01 and 02 give for the refusal.
     pub fn number(self) -> u32
         ensures { λ r. ⌜ r ≡ numberOf self ⌝ }
     {
@@ -48,6 +51,8 @@ impl Refusal {
             Refusal::NameLength => 15,
             Refusal::NameByte => 16,
             Refusal::TrailingBytes => 17,
+            Refusal::MarkRange => 18,
+            Refusal::MarkEmpty => 19,
         }
     }
 }

@@ -1,2 +1,9 @@
+pub mod Above
 pub mod Looks
+pub mod Marks
+pub mod Setting
+pub mod Told
 pub mod Walking
+pub mod Running
+pub mod Returning
+pub mod Claims

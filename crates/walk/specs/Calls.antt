@@ -1,89 +1,92 @@
--- Demand 3's claim about a whole list of draws and looks.
-use mathlib.Core.Bool.{false}
-use mathlib.Core.Path.{_≡_}
-use Prim.Native.Nat.{ℕ, _+_, _≤_, _<_, min}
+-- A list of calls on a walk: what they answer, and the record after them.
+use Prim.Native.Nat.{ℕ, _+_}
+use mathlib.Core.Bool.{cond}
 use mathlib.Core.List.{List, [], _∷_}
-use lib.ListN.{length, getD, take}
+use lib.Dec.{eqb}
+use lib.ListN.{getD, take, drop}
 use Rattle.reply.specs.Reply.{Reply, served, refused, spent}
-use Rattle.poly.specs.Limits.{listLength}
-use Rattle.pairs.specs.Pairs.{entry}
-use Rattle.pairs.specs.Replies.{pairReply}
 use Rattle.walk.specs.declared.Walk.{Walk}
-use Rattle.walk.specs.Walks.{begun, badRecord, entryReply, lookReply, afterDraw}
+use Rattle.walk.specs.Walks.{lookReply, afterDraw, setMarkReply, afterSetMark, goBackReply, afterGoBack}
 
 pub data Call : Type 0 where
   look : Call
   draw : Call
+  setMark : ℕ → Call
+  goBack : ℕ → Call
 
 -- A call with its answer.
 pub record Answered : Type 0 where
   pub call : Call
   pub reply : Reply
 
--- The record after a call: each call gets the record as the call before it handed it back or left it.
-abbrev pub next : Call → Walk → Walk
-next look walk = walk
-next draw walk = afterDraw walk
+-- What a call answers to a record, and the record after it, as the contracts of the four calls have them.
+abbrev pub replyTo : Call → Walk → Reply
+replyTo look walk = lookReply walk
+replyTo draw walk = lookReply walk
+replyTo (setMark mark) walk = setMarkReply walk mark
+replyTo (goBack mark) walk = goBackReply walk mark
 
--- The answers of a list of calls.
+abbrev pub recordAfter : Call → Walk → Walk
+recordAfter look walk = walk
+recordAfter draw walk = afterDraw walk
+recordAfter (setMark mark) walk = afterSetMark walk mark
+recordAfter (goBack mark) walk = afterGoBack walk mark
+
+-- The answers of a list of calls: each call gets the record as the call before it handed it back or left it.
 abbrev pub answers : Walk → List Call → List Answered
 answers walk [] = []
-answers walk (call ∷ calls) = record { call = call; reply = lookReply walk } ∷ answers (next call walk) calls
+answers walk (call ∷ calls) = record { call = call; reply = replyTo call walk } ∷ answers (recordAfter call walk) calls
 
 -- The record after them.
 abbrev pub last : Walk → List Call → Walk
 last walk [] = walk
-last walk (call ∷ calls) = last (next call walk) calls
+last walk (call ∷ calls) = last (recordAfter call walk) calls
 
--- Whether a call is a draw that was not turned down, as 1 or 0.
-abbrev pub counts : Call → Reply → ℕ
-counts look reply = 0
-counts draw (served values) = 1
-counts draw spent = 1
-counts draw (refused number) = 0
+-- Call i of a list, counted from 0, and its answer; there is one for each call. Behind the last they mean nothing.
+abbrev pub callAt : List Call → ℕ → Call
+callAt calls i = getD calls i look
 
--- How many draws among the calls were not turned down.
-abbrev pub draws : List Answered → ℕ
-draws [] = 0
-draws (first ∷ rest) = counts (first .call) (first .reply) + draws rest
-
--- The answer at place i of a list of calls; there is one for each call.
 abbrev pub answer : Walk → List Call → ℕ → Reply
 answer walk calls i = getD (answers walk calls) i (record { call = look; reply = refused 0 }) .reply
 
--- How many draws before place i were not turned down.
-abbrev pub before : Walk → List Call → ℕ → ℕ
-before walk calls i = draws (take i (answers walk calls))
+-- The calls from call i on and before call k, with their answers.
+abbrev pub between : Walk → List Call → ℕ → ℕ → List Answered
+between walk calls i k = drop i (take k (answers walk calls))
 
--- Number 3 has no cause.
-abbrev pub Sound : Walk → Type 0
-Sound walk = badRecord walk ≡ false
+-- How many of the calls are of a kind; `kind` is 1 for a call with its answer that is, and 0 for one that is not.
+abbrev pub howMany : (Call → Reply → ℕ) → List Answered → ℕ
+howMany kind [] = 0
+howMany kind (first ∷ rest) = kind (first .call) (first .reply) + howMany kind rest
 
--- A list of calls on any sound record: each answers with the entry as far behind the record's position as there were draws before it, or
--- with spent; and so many draws does the record afterwards count on, up to the list's end.
-pub record Walked (walk : Walk) (calls : List Call) : Type 0 where
-  pub answered : (i : ℕ) → i < length calls → answer walk calls i ≡ entryReply (walk .degree) (walk .position + before walk calls i)
-  pub degree : last walk calls .degree ≡ walk .degree
-  pub position : last walk calls .position ≡ min (listLength (walk .degree)) (walk .position + draws (answers walk calls))
+-- Draws that were not refused.
+abbrev pub drew : Call → Reply → ℕ
+drew draw (served values) = 1
+drew draw spent = 1
+drew draw (refused number) = 0
+drew look reply = 0
+drew (setMark mark) reply = 0
+drew (goBack mark) reply = 0
 
-abbrev pub WalkClaim : Type 0
-WalkClaim = (walk : Walk) → Sound walk → (calls : List Call) → Walked walk calls
+-- Returns that were served: a return is a call that goes back to a mark.
+abbrev pub returned : Call → Reply → ℕ
+returned (goBack mark) (served values) = 1
+returned (goBack mark) spent = 0
+returned (goBack mark) (refused number) = 0
+returned look reply = 0
+returned draw reply = 0
+returned (setMark mark) reply = 0
 
-abbrev pub NotRefused : Reply → Type 0
-NotRefused (served values) = Unit {0}
-NotRefused spent = Unit {0}
-NotRefused (refused number) = ⊥
+abbrev pub draws : List Answered → ℕ
+draws = howMany drew
 
--- The same in demand 3's words, from the record that starting gives. None of the calls is turned down. Each, with j draws before it in the
--- list that were not turned down, gives the pair at position j of the list if j is below its length L, and says spent if j is L or more.
--- After them the degree is still n, and the position is the smaller of L and how many draws were not turned down.
-pub record FromStart (n : ℕ) (calls : List Call) : Type 0 where
-  pub none-refused : (i : ℕ) → i < length calls → NotRefused (answer (begun n) calls i)
-  pub pair : (i : ℕ) → i < length calls → before (begun n) calls i < listLength n
-      → answer (begun n) calls i ≡ pairReply (entry n (before (begun n) calls i))
-  pub spent-at-end : (i : ℕ) → i < length calls → listLength n ≤ before (begun n) calls i → answer (begun n) calls i ≡ spent
-  pub degree : last (begun n) calls .degree ≡ n
-  pub position : last (begun n) calls .position ≡ min (listLength n) (draws (answers (begun n) calls))
+abbrev pub returns : List Answered → ℕ
+returns = howMany returned
 
-abbrev pub StartClaim : Type 0
-StartClaim = (n : ℕ) → 1 ≤ n → n ≤ 31 → (calls : List Call) → FromStart n calls
+-- Settings of one mark that were served.
+abbrev pub sets : ℕ → Call → Reply → ℕ
+sets mark (setMark other) (served values) = cond (eqb mark other) 1 0
+sets mark (setMark other) spent = 0
+sets mark (setMark other) (refused number) = 0
+sets mark look reply = 0
+sets mark draw reply = 0
+sets mark (goBack other) reply = 0

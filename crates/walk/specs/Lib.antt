@@ -1,2 +1,4 @@
 pub mod Walks
 pub mod Calls
+pub mod Past
+pub mod Claims

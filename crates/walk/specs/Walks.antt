@@ -1,8 +1,10 @@
--- The walk (document 01, "Walk"): what start, look and draw reply, and the record after a draw.
-use Prim.Native.Nat.{ℕ, _+_}
-use mathlib.Core.Bool.{Bool, _||_, cond}
-use mathlib.Core.List.{[], _∷_}
-use lib.Dec.{ltb}
+-- The walk (document 01, "Walk"; its marks: document 02, request c): what start, look, draw, setting a mark and going back to one reply,
+-- and the record after them.
+use Prim.Native.Nat.{ℕ, _+_, _-_}
+use mathlib.Core.Bool.{Bool, false, _||_, cond}
+use mathlib.Core.List.{List, [], _∷_}
+use lib.Dec.{ltb, eqb}
+use lib.ListN.{getD, set, replicate}
 use Rattle.reply.specs.Numbers.{numberOf}
 use Rattle.reply.specs.Reply.{Reply, served, refused, spent, Cause, _gives_, unless, after}
 use Rattle.poly.specs.Limits.{outside, listLength}
@@ -15,9 +17,9 @@ use Rattle.walk.specs.declared.Change.the-variants.{Done, Refused}
 use Rattle.walk.specs.declared.Next.{Next}
 use Rattle.walk.specs.declared.Next.the-variants.{Codes, Spent, Refused as Unserved}
 
--- Starting puts the position at 0.
+-- Starting puts the position at 0, with eight empty marks. A mark is stored as 0 if it is empty, else as its position plus 1.
 abbrev pub begun : ℕ → Walk
-begun n = record { degree = n; position = 0 }
+begun n = record { degree = n; position = 0; marks = replicate 8 0 }
 
 abbrev pub changeReply : Change → Reply
 changeReply Done = served []
@@ -31,9 +33,16 @@ startReply n = unless (degreeCause n ∷ []) (served [])
 abbrev pub started : ℕ → Walk
 started n = after (startReply n) (begun n) (begun 0)
 
--- A degree outside 1 to 31, or a position above the length.
+-- Some number of a list is above `most`.
+abbrev pub anyAbove : ℕ → List ℕ → Bool
+anyAbove most [] = false
+anyAbove most (first ∷ rest) = ltb most first || anyAbove most rest
+
+-- A degree outside 1 to 31, a position above the length, or a set mark beyond the length.
 unfoldable pub badRecord : Walk → Bool
-badRecord walk = outside 1 31 (walk .degree) || ltb (listLength (walk .degree)) (walk .position)
+badRecord walk =
+    outside 1 31 (walk .degree) || ltb (listLength (walk .degree)) (walk .position)
+    || anyAbove (listLength (walk .degree) + 1) (walk .marks)
 
 -- 3: bad walk record.
 abbrev pub recordCause : Walk → Cause
@@ -54,4 +63,31 @@ lookReply walk = unless (recordCause walk ∷ []) (entryReply (walk .degree) (wa
 
 -- A draw that gives a pair moves on by one; otherwise the record stays.
 unfoldable pub afterDraw : Walk → Walk
-afterDraw walk = after (lookReply walk) (record { degree = walk .degree; position = walk .position + 1 }) walk
+afterDraw walk =
+    after (lookReply walk) (record { degree = walk .degree; position = walk .position + 1; marks = walk .marks }) walk
+
+-- 18: mark above 7.
+abbrev pub markCause : ℕ → Cause
+markCause mark = ltb 7 mark gives 18
+
+-- 19: the mark is empty.
+abbrev pub emptyCause : List ℕ → ℕ → Cause
+emptyCause marks mark = eqb (getD marks mark 0) 0 gives 19
+
+unfoldable pub setMarkReply : Walk → ℕ → Reply
+setMarkReply walk mark = unless (recordCause walk ∷ markCause mark ∷ []) (served [])
+
+-- Setting a mark stores the position.
+unfoldable pub afterSetMark : Walk → ℕ → Walk
+afterSetMark walk mark =
+    after (setMarkReply walk mark)
+    (record { degree = walk .degree; position = walk .position; marks = set (walk .marks) mark (walk .position + 1) }) walk
+
+unfoldable pub goBackReply : Walk → ℕ → Reply
+goBackReply walk mark = unless (recordCause walk ∷ markCause mark ∷ emptyCause (walk .marks) mark ∷ []) (served [])
+
+-- Going back to a mark takes the stored position up.
+unfoldable pub afterGoBack : Walk → ℕ → Walk
+afterGoBack walk mark =
+    after (goBackReply walk mark)
+    (record { degree = walk .degree; position = getD (walk .marks) mark 0 - 1; marks = walk .marks }) walk

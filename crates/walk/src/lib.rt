@@ -1,16 +1,26 @@
-// A walk through the list of a degree: start, look, draw.
+// A walk through the list of a degree: start, look, draw, set a mark, go back to one.
 use pairs::Found;
+use poly::Checked;
 use poly::Count;
 use poly::Degree;
 use reply::Refusal;
 ghost use mathlib.Core.Path.{_≡_};
-ghost use Rattle.walk.specs.Walks.{begun, changeReply, startReply, started, nextReply, lookReply, afterDraw};
+ghost use mathlib.Core.Bool.{cond};
+ghost use mathlib.Core.List.{[], _∷_};
+ghost use lib.Dec.{eqb};
+ghost use lib.ListN.{set};
+ghost use Rattle.reply.specs.Numbers.{numberOf};
+ghost use Rattle.reply.specs.Reply.{served, refused, unless};
+ghost use Rattle.poly.specs.Replies.{checkedReply};
+ghost use Rattle.walk.specs.Walks.{begun, changeReply, startReply, started, recordCause, nextReply, lookReply, afterDraw};
+ghost use Rattle.walk.specs.Walks.{anyAbove, setMarkReply, afterSetMark, goBackReply, afterGoBack};
 
-// Document 01's walk record.
+// Document 01's walk record, with document 02's eight marks. A mark is 0 if it is empty, else the marked position plus 1.
 #[repr(C)]
 pub struct Walk {
     pub degree: u32,
     pub position: u64,
+    pub marks: [u64; 8],
 }
 
 // What a call that gives no values answers.
@@ -19,8 +29,8 @@ pub enum Change {
     Refused(Refusal),
 }
 
-// What a start answers, and the new record. Where there is none, a record that no call serves stands in its place.
-pub struct Started {
+// What a start, the setting of a mark or going back answers, and the record after it.
+pub struct Changed {
     pub answer: Change,
     pub walk: Walk,
 }
@@ -38,16 +48,17 @@ pub struct Drawn {
     pub walk: Walk,
 }
 
-pub fn start(n: u32) -> Started
+// Where it refuses, the record is one that no call serves.
+pub fn start(n: u32) -> Changed
     ensures { λ r. ⌜ (changeReply (r .answer) ≡ startReply n) × (r .walk ≡ started n) ⌝ }
 {
     if (Degree { n }).outside() {
-        return Started {
+        return Changed {
             answer: Change::Refused(Refusal::DegreeRange),
             walk: begun(0),
         };
     }
-    Started {
+    Changed {
         answer: Change::Done,
         walk: begun(n),
     }
@@ -60,30 +71,80 @@ fn begun(n: u32) -> Walk
     Walk {
         degree: n,
         position: 0,
+        marks: [0; 8],
     }
 }
 
+// Some number is above `most`.
+fn any_above(numbers: [u64; 8], most: u64) -> bool
+    ensures { λ r. ⌜ r ≡ anyAbove most numbers ⌝ }
+{
+    let mut above = false;
+    let mut i: usize = 0;
+    while i < 8 {
+        above = above | (most < numbers[i]);
+        i += 1;
+    }
+    above
+}
+
+// `new` at the place that is meant, the old number at any other.
+fn chosen(i: u32, place: u32, new: u64, old: u64) -> u64
+    ensures { λ r. ⌜ r ≡ cond (eqb i place) new old ⌝ }
+{
+    if i == place {
+        return new;
+    }
+    old
+}
+
+// The numbers with one of them replaced. Each is chosen: an array that is written behind a variable goes through memory twice.
+fn replaced(numbers: [u64; 8], place: u32, new: u64) -> [u64; 8]
+    ensures { λ r. ⌜ r ≡ set numbers place new ⌝ }
+{
+    let mut after = numbers;
+    let mut i: u32 = 0;
+    while i < 8 {
+        after[i as usize] = chosen(i, place, new, after[i as usize]);
+        i += 1;
+    }
+    after
+}
+
 impl Walk {
+    // The test of the record that every call on it makes first: number 3.
+    fn checked(self) -> Checked
+        ensures { λ r. ⌜ checkedReply r ≡ unless (recordCause self ∷ []) (served []) ⌝ }
+    {
+        let n = self.degree;
+        match (Degree { n }).list_length() {
+            Count::Refused(_) => Checked::Refused(Refusal::WalkRecord),
+            Count::Is(length) => {
+                if length < self.position {
+                    return Checked::Refused(Refusal::WalkRecord);
+                }
+                let marks = self.marks;
+                if any_above(marks, length + 1) {
+                    return Checked::Refused(Refusal::WalkRecord);
+                }
+                Checked::Passed
+            }
+        }
+    }
+
     // The pair at the record's position; spent at the list's end.
     pub fn look(self) -> Next
         ensures { λ r. ⌜ nextReply r ≡ lookReply self ⌝ }
     {
         let n = self.degree;
         let position = self.position;
-        match (Degree { n }).list_length() {
-            Count::Refused(_) => Next::Refused(Refusal::WalkRecord),
-            Count::Is(length) => {
-                if length < position {
-                    return Next::Refused(Refusal::WalkRecord);
-                }
-                if length == position {
-                    return Next::Spent;
-                }
-                match pairs::pair_at(n, position) {
-                    Found::Codes(f, g) => Next::Codes(f, g),
-                    Found::Refused(refusal) => Next::Refused(refusal),
-                }
-            }
+        match self.checked() {
+            Checked::Refused(refusal) => Next::Refused(refusal),
+            // At the position of a good record there is a pair, or the list's end.
+            Checked::Passed => match pairs::pair_at(n, position) {
+                Found::Codes(f, g) => Next::Codes(f, g),
+                Found::Refused(_) => Next::Spent,
+            },
         }
     }
 
@@ -93,13 +154,14 @@ impl Walk {
     {
         let answer = self.look();
         match answer {
-            Next::Codes(f, g) => Drawn {
-                answer: Next::Codes(f, g),
-                walk: Walk {
-                    degree: self.degree,
-                    position: self.position + 1,
-                },
-            },
+            Next::Codes(f, g) => {
+                let mut walk = self;
+                walk.position = self.position + 1;
+                Drawn {
+                    answer: Next::Codes(f, g),
+                    walk,
+                }
+            }
             Next::Spent => Drawn {
                 answer: Next::Spent,
                 walk: self,
@@ -108,6 +170,73 @@ impl Walk {
                 answer: Next::Refused(refusal),
                 walk: self,
             },
+        }
+    }
+
+    // The test of the record, and then that of a mark's number.
+    fn checked_mark(self, mark: u32) -> Checked
+        ensures { λ r. ⌜ checkedReply r ≡ setMarkReply self mark ⌝ }
+    {
+        match self.checked() {
+            Checked::Refused(refusal) => Checked::Refused(refusal),
+            Checked::Passed => {
+                if 7 < mark {
+                    return Checked::Refused(Refusal::MarkRange);
+                }
+                Checked::Passed
+            }
+        }
+    }
+
+    // A refusal, and the record as it was.
+    fn refused(self, refusal: Refusal) -> Changed
+        ensures { λ r. ⌜ (changeReply (r .answer) ≡ refused (numberOf refusal)) × (r .walk ≡ self) ⌝ }
+    {
+        Changed {
+            answer: Change::Refused(refusal),
+            walk: self,
+        }
+    }
+
+    // The position stored in a mark.
+    pub fn set_mark(self, mark: u32) -> Changed
+        ensures { λ r. ⌜ (changeReply (r .answer) ≡ setMarkReply self mark) × (r .walk ≡ afterSetMark self mark) ⌝ }
+    {
+        match self.checked_mark(mark) {
+            Checked::Refused(refusal) => self.refused(refusal),
+            Checked::Passed => {
+                let stored = self.position + 1;
+                let marks = self.marks;
+                let after = replaced(marks, mark, stored);
+                let mut walk = self;
+                walk.marks = after;
+                Changed {
+                    answer: Change::Done,
+                    walk,
+                }
+            }
+        }
+    }
+
+    // The position of a mark taken up.
+    pub fn go_back(self, mark: u32) -> Changed
+        ensures { λ r. ⌜ (changeReply (r .answer) ≡ goBackReply self mark) × (r .walk ≡ afterGoBack self mark) ⌝ }
+    {
+        match self.checked_mark(mark) {
+            Checked::Refused(refusal) => self.refused(refusal),
+            Checked::Passed => {
+                let stored = self.marks[mark as usize];
+                if stored == 0 {
+                    return self.refused(Refusal::MarkEmpty);
+                }
+                let position = stored - 1;
+                let mut walk = self;
+                walk.position = position;
+                Changed {
+                    answer: Change::Done,
+                    walk,
+                }
+            }
         }
     }
 }

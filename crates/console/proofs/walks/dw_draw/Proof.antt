@@ -1,5 +1,6 @@
 -- `dw_draw` meets its contract: the record is copied out of its borrow and handed to `drawn` with the two pointers, and where that
--- returns 0, the record that came with it is stored; otherwise the borrow stays shut. All that is known of `drawn` is its contract.
+-- returns 0, the position of the record that came with it is stored; otherwise the borrow stays shut. All that is known of `drawn` is its
+-- contract, by which it changes the position alone.
 use mathlib.Core.Path.{refl}
 use Prim.Native.Nat.{ℕ}
 use mathlib.Core.List.{List, [], _∷_, _++_}
@@ -19,9 +20,9 @@ use contract.Running.{givenOf}
 use types.Kit.{Given, Item, mean, ⋆, Sq, runs, atRet, ‵, raw, _⊛_, some, later, _$_, _∵_, !, qed, by, move, keep, drop}
 use types.Kit.{use1, use2, split, join, pick, fsplit, fsplit3, fjoin, fjoin3, feqI, rewrite, suffices, frame, await, done}
 use types.Run.{lit, bin, first, branches, assigns-last, skips, exec}
-use types.Run.{look, look-raw, init, store-raw, forget, stop, hop, fld, from, load, addr, and-then, no-more}
+use types.Run.{look, look-raw, init, forget, stop, hop, fld, from, load, addr, and-then, no-more}
 use types.Run.{of-opd, assigns, land, returns, enter, alloc1, alloc0, params1, pass1, pass0, free1, free0}
-use types.Part.{whole, sub, look-in}
+use types.Part.{whole, sub, look-in, store-in}
 use sound.WpLaws.{FmC}
 use denote.RattleType.{owns}
 use denote.Laws.{Is, shows}
@@ -54,9 +55,16 @@ use Rattle.console.proofs.walks.dw_draw as draw
 use Rattle.console.proofs.walks.dw_draw.Statement as stated
 use Rattle.console.proofs.walks.dw_draw.Code as code
 use Rattle.console.proofs.walks.dw_draw.Code.Mir as steps
-use Rattle.console.proofs.Told.{draw-unserved}
-use Rattle.console.proofs.walks.Lent.{val, outcome, is-status, is-walk, to, lent, opened, closed, Pair, args, tokens, ends}
+use Rattle.console.proofs.Told.{moved, draw-moved, draw-unserved}
+use Rattle.console.proofs.walks.Lent.{val, outcome, is-status, is-position, to, lent, opened, closed, Pair, args, tokens, ends}
 use Rattle.console.proofs.walks.Lent.{passed, meets}
+
+-- the record with another position
+is-moved : (h : Walk) → Is T.the-row h (val h ∷ []) → (r : Outcome) (v : Val) → Is D.the-row r (v ∷ [])
+    → Is T.the-row (moved h (r .walk .position)) (val (moved h (r .walk .position)) ∷ [])
+is-moved h was r v is =
+    let parts = LL.owed T.the-type T′.the-laws h (val h ∷ []) was in
+    LL.owes T.the-type T′.the-laws (moved h (r .walk .position)) (parts .0, (is-position r v is, parts .1 .1))
 
 -- the walk's borrow is kept; the two pointers' borrows are given to the callee
 abbrev stayed : Stays (draw.ended .signature .params) (draw.ended .kept)
@@ -185,12 +193,13 @@ module _ {M : Type 1} (𝓤 : URA M) (H : Heap 𝓤) (A : Atoms 𝓤) (W : Given
         (init ! 5 refl (tt, tt)) $ move ! (2 ∷ 3 ∷ 4 ∷ []) $ first ! $ branches ! (load ! (from ! (stop !)) (look ! 5 refl))
         (λ _. opened ! tt xw h (λ _.
         -- [the record's cell; the open borrow; obs; auth; the pointers' tokens; their last numbers; _8; …]
-        assigns-last ! (of-opd ! (load ! (from ! (fld ! refl (stop !))) (look-in ! 12 (sub ! 1 refl (whole !)))))
-        (from ! (hop ! (look ! 20 refl) (stop !)))
-        (store-raw ! 0 refl (LL.lawful T.the-type T′.the-laws 𝓤 H A W .typed (r .walk) _ (is-walk r v is) .0)) $
+        assigns-last !
+        (of-opd ! (load ! (from ! (fld ! refl (fld ! refl (stop !)))) (look-in ! 12 (sub ! 1 refl (sub ! 1 refl (whole !))))))
+        (from ! (hop ! (look ! 20 refl) (fld ! refl (stop !))))
+        (store-in ! 0 (sub ! 1 refl (whole !)) (tt, record { fits = is-position r v is .1 })) $
         exec ! C Λ (E l₀ l₁ l₂ l₃ l₄ l₅ l₆ l₇ l₈) steps.t-7 (atRet (E l₀ l₁ l₂ l₃ l₄ l₅ l₆ l₇ l₈) Post) $
-        closed ! tt xw (r .walk) (is-walk r v is) $
-        leaves l₀ l₁ l₂ l₃ l₄ l₅ l₆ l₇ l₈ (r .walk) (zs .1 .0) (zs .1 .1 .0) r e (is-status r v is)))
+        closed ! tt xw (moved h (r .walk .position)) (is-moved h was r v is) $
+        leaves l₀ l₁ l₂ l₃ l₄ l₅ l₆ l₇ l₈ (moved h (r .walk .position)) (zs .1 .0) (zs .1 .1 .0) r (draw-moved e) (is-status r v is)))
         (λ t. skips ! $ exec ! C Λ (E l₀ l₁ l₂ l₃ l₄ l₅ l₆ l₇ l₈) steps.t-7 (atRet (E l₀ l₁ l₂ l₃ l₄ l₅ l₆ l₇ l₈) Post) $
         leaves l₀ l₁ l₂ l₃ l₄ l₅ l₆ l₇ l₈ h (zs .1 .0) (zs .1 .1 .0) r (draw-unserved e t) (is-status r v is)))))))))))))))))
 

@@ -4,7 +4,7 @@ use mathlib.Core.Path.{_≡_, sym, ap, _∙_}
 use borrow.Author.Needs.{needs}
 use Rattle.reply.specs.Reply.{served}
 use Rattle.walk.specs.Walks.{nextReply, lookReply}
-use Rattle.walk.proofs.Looks.{moves, stays-spent, stays-refused, next-fits}
+use Rattle.walk.proofs.Looks.{moves, stays-spent, stays-refused, next-fits, given-good}
 use Rattle.walk.proofs.Walk.drawn.Statement.{statement}
 use Rattle.walk.proofs.Walk.drawn.Tie as tie
 
@@ -19,8 +19,10 @@ given : (c : tie.After-struct-known)
     ≡ lookReply (c .before .before .before .before .before .args .self)
 given c = sym (ap nextReply (c .before .before .answer .given .1)) ∙ c .before .before .before .before .look .ensures
 
-add-t8 : tie.Need-add-t8
-add-t8 c = record { fits = next-fits (c .before .before .before .before .before .args .self) (given c) }
+add-walk : tie.Need-add-walk
+add-walk c =
+    let walk = c .before .before .before .before .before .args .self in
+    record { fits = next-fits walk (given-good walk (given c)) }
 
 enum-told : tie.Need-enum-told
 enum-told c = search needs
@@ -47,7 +49,7 @@ drawn-spec =
     (tie.spec
     look-requires
     enum-known-answer
-    add-t8
+    add-walk
     enum-told
     enum-known-answer-2
     returns

@@ -1,0 +1,70 @@
+// Checksums of walks with marks set and returns.
+use crate::random::mixed;
+use walk::Change;
+use walk::Changed;
+use walk::Next;
+use walk::Walk;
+
+// A record, and the checksum of what the calls before it answered.
+struct Summed {
+    walk: Walk,
+    sum: u64,
+}
+
+fn shown(sum: u64, answer: Next) -> u64 {
+    match answer {
+        Next::Codes(f, g) => mixed(mixed(sum, f as u64), g as u64),
+        Next::Spent => mixed(sum, 255),
+        Next::Refused(refusal) => mixed(sum, refusal.number() as u64),
+    }
+}
+
+fn drawn(sum: u64, walk: Walk) -> Summed {
+    let next = walk.drawn();
+    let answer = next.answer;
+    let walk = next.walk;
+    Summed {
+        walk,
+        sum: shown(sum, answer),
+    }
+}
+
+fn status(answer: Change) -> u64 {
+    match answer {
+        Change::Done => 0,
+        Change::Refused(refusal) => refusal.number() as u64,
+    }
+}
+
+fn changed(sum: u64, change: Changed) -> Summed {
+    let answer = change.answer;
+    let walk = change.walk;
+    Summed {
+        walk,
+        sum: mixed(sum, status(answer)),
+    }
+}
+
+// The i-th call: a mark is set at every sixteenth, a return made at every 64th, and the others draw. Mark 8 is refused.
+fn called(at: Summed, i: u64) -> Summed {
+    let sum = at.sum;
+    let walk = at.walk;
+    if i % 64 == 45 {
+        return changed(sum, walk.go_back((i / 64 % 9) as u32));
+    }
+    if i % 16 == 5 {
+        return changed(sum, walk.set_mark((i / 16 % 9) as u32));
+    }
+    drawn(sum, walk)
+}
+
+// The checksum of 3000 calls, and the position after them.
+pub fn walk_sum(n: u32) -> u64 {
+    let started = walk::start(n);
+    let mut at = changed(0, started);
+    for i in 0..3000u64 {
+        at = called(at, i);
+    }
+    let end = at.walk;
+    mixed(at.sum, end.position)
+}
