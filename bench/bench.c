@@ -37,7 +37,7 @@ typedef struct Trial {
 /* What a call answers, and the memory that it is lent, which both sides have at the same place of a cache line. */
 typedef struct Answer {
     uint32_t status, degree, codes[2], divisor, quotients[DW_CHAIN_ROOM];
-    uint64_t position, positions, marks[DW_MARKS];
+    uint64_t position, positions, marks[DW_MARKS], counts[DW_BONDERS];
     size_t count, offset;
     _Alignas(64) uint16_t powers[DW_LEVELS_ROOM], forces[DW_LEVELS_ROOM];
     _Alignas(64) uint8_t bytes[DW_SHEET_ROOM];
@@ -147,7 +147,7 @@ static uint32_t (*const position_of[SIDES])(uint32_t, uint32_t, uint32_t, uint64
 static uint32_t (*const chain[SIDES])(uint32_t, uint32_t, uint32_t, uint32_t *, size_t, size_t *, uint32_t *) = {dw_chain, plain_chain};
 static uint32_t (*const longest_chains[SIDES])(uint32_t, uint64_t *, uint64_t *) = {dw_longest_chains, plain_longest_chains};
 static uint32_t (*const look[SIDES])(const dw_walk *, uint32_t *, uint32_t *) = {dw_look, plain_look};
-static uint32_t (*const draw[SIDES])(dw_walk *, uint32_t *, uint32_t *) = {dw_draw, plain_draw};
+static uint32_t (*const draw[SIDES])(dw_walk *, uint32_t, uint32_t *, uint32_t *) = {dw_draw, plain_draw};
 static uint32_t (*const set_mark[SIDES])(dw_walk *, uint32_t) = {dw_set_mark, plain_set_mark};
 static uint32_t (*const go_back[SIDES])(dw_walk *, uint32_t) = {dw_go_back, plain_go_back};
 static uint32_t (*const site[SIDES])(uint32_t, uint32_t, uint32_t, uint32_t, uint32_t, uint32_t *, uint32_t *) = {dw_site, plain_site};
@@ -201,10 +201,10 @@ static void run_longest_chains(int side, size_t from, size_t to)
         a->status = longest_chains[side](degree, &a->positions, &a->position);
 }
 
-/* A walk at the position of an input, with half of its marks set. */
+/* A walk at the position of an input, with half of its marks set and nothing counted. */
 static dw_walk some_walk(size_t i)
 {
-    dw_walk walk = {degree, inputs[i].position, {0}};
+    dw_walk walk = {degree, inputs[i].position, {0}, {0}};
     for (size_t mark = 0; mark < DW_MARKS; mark += 2)
         walk.marks[mark] = inputs[mark].position + 1;
     return walk;
@@ -221,16 +221,17 @@ static void run_look(int side, size_t from, size_t to)
     }
 }
 
-/* One record is lent to each draw; behind the list's end it starts anew. */
+/* One record is lent to each draw, the bonders in turn; behind the list's end it starts anew. */
 static void run_draw(int side, size_t from, size_t to)
 {
     Answer *a = &answers[side];
     dw_walk walk = some_walk(from);
     for (size_t i = from; i < to; i++)
-        if ((a->status = draw[side](&walk, &a->codes[0], &a->codes[1])) == DW_SPENT)
+        if ((a->status = draw[side](&walk, (uint32_t)i % DW_BONDERS, &a->codes[0], &a->codes[1])) == DW_SPENT)
             walk.position = 0;
     a->position = walk.position;
     memcpy(a->marks, walk.marks, sizeof walk.marks);
+    memcpy(a->counts, walk.counts, sizeof walk.counts);
 }
 
 /* Sixteen records are lent to the settings and the returns in turn, so that none is read just after it was written. */
@@ -243,6 +244,7 @@ static void run_marks(uint32_t (*call)(dw_walk *, uint32_t), Answer *a, size_t f
         a->status = call(&walks[i % WALKS], (uint32_t)(2 * i) % DW_MARKS);
     a->position = walks[from % WALKS].position;
     memcpy(a->marks, walks[from % WALKS].marks, sizeof a->marks);
+    memcpy(a->counts, walks[from % WALKS].counts, sizeof a->counts);
 }
 
 static void run_set_mark(int side, size_t from, size_t to)

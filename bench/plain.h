@@ -220,11 +220,12 @@ static int plain_bad_walk(const dw_walk *walk)
     int bad = 0;
     for (int i = 0; i < DW_MARKS; i++)
         bad |= walk->marks[i] > plain_first[n][n + 1] + 1;
+    for (int i = 0; i < DW_BONDERS; i++)
+        bad |= walk->counts[i] > DW_FULL_COUNT;
     return bad;
 }
 
-/* The pair at the walk's position. */
-static inline uint32_t plain_here(const dw_walk *walk, uint32_t *f, uint32_t *g)
+PLAIN_CALL plain_look(const dw_walk *walk, uint32_t *f, uint32_t *g)
 {
     uint32_t n = walk->degree;
     if (plain_bad_walk(walk))
@@ -235,17 +236,20 @@ static inline uint32_t plain_here(const dw_walk *walk, uint32_t *f, uint32_t *g)
     return DW_SERVED;
 }
 
-PLAIN_CALL plain_look(const dw_walk *walk, uint32_t *f, uint32_t *g)
+PLAIN_CALL plain_draw(dw_walk *walk, uint32_t bonder, uint32_t *f, uint32_t *g)
 {
-    return plain_here(walk, f, g);
-}
-
-PLAIN_CALL plain_draw(dw_walk *walk, uint32_t *f, uint32_t *g)
-{
-    uint32_t status = plain_here(walk, f, g);
-    if (status != DW_SERVED)
-        return status;
+    uint32_t n = walk->degree;
+    if (plain_bad_walk(walk))
+        return DW_REFUSED_WALK_RECORD;
+    if (bonder >= DW_BONDERS)
+        return DW_REFUSED_BONDER_RANGE;
+    if (walk->position == plain_first[n][n + 1])
+        return DW_SPENT;
+    if (walk->counts[bonder] == DW_FULL_COUNT)
+        return DW_REFUSED_BONDER_FULL;
+    plain_next_pair(n, walk->position, f, g);
     walk->position++;
+    walk->counts[bonder]++;
     return DW_SERVED;
 }
 

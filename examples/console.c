@@ -1,4 +1,4 @@
-/* A console's job: start a walk, draw a pair, go on and come back, make the sheet, write the trial file and read it back. */
+/* A console's job: start a walk, draw pairs for two bonders, come back, make the sheet, write the trial file and read it back. */
 #include "dinnowell.h"
 
 #include <inttypes.h>
@@ -11,14 +11,15 @@ int main(void)
     uint32_t n = 2, f = 0, g = 0;
 
     dw_walk walk;
-    if (dw_start(n, &walk) != DW_SERVED || dw_draw(&walk, &f, &g) != DW_SERVED)
+    if (dw_start(n, &walk) != DW_SERVED || dw_draw(&walk, 0, &f, &g) != DW_SERVED)
         return 1;
     printf("pair %" PRIu32 " %" PRIu32 ", next position %" PRIu64 "\n", f, g, walk.position);
 
     uint32_t next_f = 0, next_g = 0;
-    if (dw_set_mark(&walk, 0) != DW_SERVED || dw_draw(&walk, &next_f, &next_g) != DW_SERVED || dw_go_back(&walk, 0) != DW_SERVED)
+    if (dw_set_mark(&walk, 0) != DW_SERVED || dw_draw(&walk, 3, &next_f, &next_g) != DW_SERVED || dw_go_back(&walk, 0) != DW_SERVED)
         return 1;
     printf("pair %" PRIu32 " %" PRIu32 ", and back to position %" PRIu64 "\n", next_f, next_g, walk.position);
+    printf("bonder 0 was given %" PRIu64 ", bonder 3 %" PRIu64 "\n", walk.counts[0], walk.counts[3]);
 
     uint8_t sheet[32]; /* 2 * 4^n bytes */
     if (dw_sheet(n, f, g, sheet, sizeof sheet) != DW_SERVED)

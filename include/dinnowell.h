@@ -38,7 +38,7 @@
 #include <stdint.h>
 
 /* The version of this interface. MAJOR grows where a caller may have to change, MINOR where something is added. */
-#define DW_VERSION_MAJOR 3
+#define DW_VERSION_MAJOR 4
 #define DW_VERSION_MINOR 0
 #define DW_VERSION (1000 * DW_VERSION_MAJOR + DW_VERSION_MINOR)
 
@@ -63,7 +63,7 @@ enum {
     /* Caused by the console. */
     DW_REFUSED_DEGREE_RANGE = 1,    /* degree outside 1 to 31 */
     DW_REFUSED_POSITION_RANGE = 2,  /* position not below the list's length; for dw_unordered_pair_at, entry not below half of that */
-    DW_REFUSED_WALK_RECORD = 3,     /* walk record with degree outside 1 to 31, or position or a set mark beyond the list's length */
+    DW_REFUSED_WALK_RECORD = 3,     /* walk record: degree outside 1 to 31, position or set mark beyond the length, count above 10^18 */
     DW_REFUSED_SLICE_LENGTH = 4,    /* memory too short for the results; for dw_write also a list of levels not of length 2^n */
     DW_REFUSED_SITE_RANGE = 5,      /* row or column not below 2^n */
     /* Caused by who chooses polynomials. */
@@ -83,12 +83,15 @@ enum {
     /* Caused by the console. */
     DW_REFUSED_MARK_RANGE = 18,     /* mark above 7 */
     DW_REFUSED_MARK_EMPTY = 19,     /* going back to an empty mark */
+    DW_REFUSED_BONDER_RANGE = 20,   /* bonder above 7 */
+    DW_REFUSED_BONDER_FULL = 21,    /* the bonder's count is DW_FULL_COUNT, and a pair is there to give */
     /* No refusal: a walk is at the end of its list. */
     DW_SPENT = 255
 };
 
 enum {
     DW_MARKS = 8,         /* how many marks a walk has, numbered from 0 */
+    DW_BONDERS = 8,       /* how many bonders draw from a walk, numbered from 0 */
     DW_CHAIN_ROOM = 32,   /* how many numbers dw_chain must be given room for */
     DW_LEVELS_ROOM = 64,  /* how many levels dw_read must be given room for, in each list */
     DW_SHEET_ROOM = 8192, /* bytes that hold a sheet of any degree; degree n needs 2 * 4^n */
@@ -97,27 +100,33 @@ enum {
     DW_STACK_ROOM = 8192  /* bytes of stack that hold any call: measured, not proved; dw_pairs_from takes most, some 4600 */
 };
 
+/* The highest count of pairs given to a bonder: with it, the bonder is given no pair. No list is so long. */
+#define DW_FULL_COUNT UINT64_C(1000000000000000000)
+
 /*
- * A walk through the list of a degree: dw_start fills it in, dw_draw moves it on, dw_set_mark marks where it is and dw_go_back takes it to
- * a mark. A mark is 0 if it is empty, else the marked position plus 1. A walk may be copied and kept, and may be written by hand: its
- * position up to the length of its list, where the walk is spent, and each mark up to the length plus 1. All eight marks count, so one that
- * is not wanted must be 0; it is safest to call dw_start and then to write the position. The padding between the fields means nothing, so
- * compare the fields and not the bytes.
- * Before version 3.0 a walk had 16 bytes and no marks. Code that was compiled for that must be compiled anew: dw_start writes 80 bytes.
+ * A walk through the list of a degree: dw_start fills it in, dw_draw moves it on and counts the pair for a bonder, dw_set_mark marks where
+ * it is and dw_go_back takes it to a mark. A mark is 0 if it is empty, else the marked position plus 1; a count is how many pairs dw_draw
+ * gave to that bonder. A walk may be copied and kept, and may be written by hand: its degree 1 to 31, its position up to the length of its
+ * list, where the walk is spent, each mark up to the length plus 1, and each count up to DW_FULL_COUNT. All eight marks and all eight
+ * counts are looked at, so one that is not wanted must be 0; it is safest to call dw_start and then to write the position. The padding
+ * between the fields means nothing, so compare the fields and not the bytes.
+ * Before version 4.0 a walk had 80 bytes and no counts, before 3.0 it had 16 bytes and no marks either. Code that was compiled for those
+ * must be compiled anew: dw_start writes 144 bytes, and dw_draw takes the bonder.
  */
 typedef struct dw_walk {
     uint32_t degree;
     uint64_t position;
     uint64_t marks[DW_MARKS];
+    uint64_t counts[DW_BONDERS];
 } dw_walk;
 
 /* The library was compiled for this layout. */
 #ifdef __cplusplus
-static_assert(sizeof(dw_walk) == 80 && offsetof(dw_walk, position) == 8 && offsetof(dw_walk, marks) == 16, "layout");
-static_assert(sizeof(size_t) == 8, "layout");
+static_assert(sizeof(dw_walk) == 144 && offsetof(dw_walk, position) == 8 && offsetof(dw_walk, marks) == 16, "layout");
+static_assert(offsetof(dw_walk, counts) == 80 && sizeof(size_t) == 8, "layout");
 #else
-_Static_assert(sizeof(dw_walk) == 80 && offsetof(dw_walk, position) == 8 && offsetof(dw_walk, marks) == 16, "layout");
-_Static_assert(sizeof(size_t) == 8, "layout");
+_Static_assert(sizeof(dw_walk) == 144 && offsetof(dw_walk, position) == 8 && offsetof(dw_walk, marks) == 16, "layout");
+_Static_assert(offsetof(dw_walk, counts) == 80 && sizeof(size_t) == 8, "layout");
 #endif
 
 /*
@@ -231,7 +240,7 @@ uint32_t dw_write(uint32_t n, uint32_t f, uint32_t g, const uint16_t *powers, si
 
 /*
  * Starts a walk through the list of degree n. What stands in *walk before is not looked at.
- * Served: *walk has degree n, position 0 and all marks empty.
+ * Served: *walk has degree n, position 0, all marks empty and all counts 0.
  * Refused: DEGREE_RANGE.
  */
 DW_MUST_CHECK
@@ -247,13 +256,13 @@ DW_MUST_CHECK
 uint32_t dw_look(const dw_walk *walk, uint32_t *f, uint32_t *g);
 
 /*
- * The pair at the walk's position, and the walk moves on.
- * Served: *f and *g are its codes; walk->position is one more than it was, the rest of *walk the same.
- * Refused: WALK_RECORD.
- * DW_SPENT: the walk is at the end of its list, and stays there.
+ * The pair at the walk's position, given to a bonder, and the walk moves on.
+ * Served: *f and *g are its codes; walk->position and walk->counts[bonder] are one more than they were, the rest of *walk the same.
+ * Refused: WALK_RECORD; BONDER_RANGE if bonder is not below DW_BONDERS; BONDER_FULL, on a walk that is not spent.
+ * DW_SPENT: the walk is at the end of its list, and stays there; nothing is counted.
  */
 DW_MUST_CHECK
-uint32_t dw_draw(dw_walk *walk, uint32_t *f, uint32_t *g);
+uint32_t dw_draw(dw_walk *walk, uint32_t bonder, uint32_t *f, uint32_t *g);
 
 /*
  * Marks the walk's position. A mark that is set already is set anew. A spent walk can be marked too: the mark is then at the end.
@@ -264,8 +273,8 @@ DW_MUST_CHECK
 uint32_t dw_set_mark(dw_walk *walk, uint32_t mark);
 
 /*
- * Takes the walk to a marked position. The mark stays set. From there dw_draw goes on through the list, so pairs that were drawn before may
- * come again; where the mark lies ahead of the walk, the pairs between are passed over.
+ * Takes the walk to a marked position. The mark stays set, and no count changes. From there dw_draw goes on through the list, so pairs that
+ * were drawn before may come again; where the mark lies ahead of the walk, the pairs between are passed over.
  * Served: walk->position is walk->marks[mark] - 1, the rest of *walk the same.
  * Refused: WALK_RECORD; MARK_RANGE if mark is not below DW_MARKS; MARK_EMPTY.
  */

@@ -20,9 +20,10 @@ CHECK(DW_REFUSED_DEGREE_RANGE == 1 && DW_REFUSED_POSITION_RANGE == 2 && DW_REFUS
 CHECK(DW_REFUSED_SITE_RANGE == 5 && DW_REFUSED_CODE_DEGREE == 6 && DW_REFUSED_CONSTANT_TERM == 7 && DW_REFUSED_COMMON_FACTOR == 8);
 CHECK(DW_REFUSED_FILE_ENDS == 9 && DW_REFUSED_NUMBER_FORM == 10 && DW_REFUSED_VERSION == 11 && DW_REFUSED_SHEET_DEGREE == 12);
 CHECK(DW_REFUSED_LEVEL_RANGE == 13 && DW_REFUSED_LEVEL_REPEATED == 14 && DW_REFUSED_NAME_LENGTH == 15 && DW_REFUSED_NAME_BYTE == 16);
-CHECK(DW_REFUSED_TRAILING_BYTES == 17 && DW_REFUSED_MARK_RANGE == 18 && DW_REFUSED_MARK_EMPTY == 19 && DW_MARKS == 8);
+CHECK(DW_REFUSED_TRAILING_BYTES == 17 && DW_REFUSED_MARK_RANGE == 18 && DW_REFUSED_MARK_EMPTY == 19 && DW_REFUSED_BONDER_RANGE == 20);
+CHECK(DW_REFUSED_BONDER_FULL == 21 && DW_MARKS == 8 && DW_BONDERS == 8 && DW_FULL_COUNT == UINT64_C(1000000000000000000));
 CHECK(DW_CHAIN_ROOM == 32 && DW_LEVELS_ROOM == 64 && DW_SHEET_ROOM == 8192 && DW_FILE_ROOM == 429 && DW_NAME_ROOM == 40);
-CHECK(DW_STACK_ROOM == 8192 && DW_VERSION_MAJOR == 3 && DW_VERSION_MINOR == 0 && DW_VERSION == 3000);
+CHECK(DW_STACK_ROOM == 8192 && DW_VERSION_MAJOR == 4 && DW_VERSION_MINOR == 0 && DW_VERSION == 4000);
 
 enum { SEED = 20261115, GUARD = 64, LARGEST = 1 << 14, SLOTS = 16 };
 
@@ -282,11 +283,13 @@ static void came_walk(int slot, uint32_t refused, dw_walk want, const char *what
     dw_walk walk;
     memcpy(&walk, memory[slot].bytes + GUARD, sizeof walk);
     int same = walk.degree == want.degree && walk.position == want.position && !memcmp(walk.marks, want.marks, sizeof want.marks);
-    expect(refused || same, what);
+    expect(refused || (same && !memcmp(walk.counts, want.counts, sizeof want.counts)), what);
     came_back(slot, &walk, refused ? 0 : sizeof walk, what);
 }
 
-/* Number 3: a degree without a list, or the position or a set mark beyond its end. */
+static const uint64_t full = UINT64_C(1000000000000000000);
+
+/* Number 3: a degree without a list, the position or a set mark beyond its end, or a count that is more than full. */
 static int bad_walk(dw_walk walk)
 {
     if (out_of_range(walk.degree))
@@ -294,20 +297,35 @@ static int bad_walk(dw_walk walk)
     uint64_t length = ref_length(walk.degree);
     int bad = walk.position > length;
     for (int i = 0; i < 8; i++)
-        bad = bad || (walk.marks[i] != 0 && walk.marks[i] - 1 > length);
+        bad = bad || (walk.marks[i] != 0 && walk.marks[i] - 1 > length) || walk.counts[i] > full;
     return bad;
 }
 
-/* A look or a draw on a record, whatever it holds; gives the record after it. */
-static dw_walk try_next(dw_walk walk, int moves)
+/* What a look answers to a record, and what a draw does. */
+static uint32_t to_look(dw_walk walk)
 {
-    uint32_t f = 0, g = 0, want = bad_walk(walk) ? 3 : walk.position == ref_length(walk.degree) ? DW_SPENT : 0;
+    return bad_walk(walk) ? 3 : walk.position == ref_length(walk.degree) ? DW_SPENT : 0;
+}
+
+static uint32_t to_draw(dw_walk walk, uint32_t bonder)
+{
+    uint32_t look = to_look(walk);
+    return look == 3 ? 3 : bonder > 7 ? 20 : look == 0 && walk.counts[bonder] == full ? 21 : look;
+}
+
+/* A look or a draw on a record, whatever it holds; gives the record after it. */
+static dw_walk try_next(dw_walk walk, uint32_t bonder, int moves)
+{
+    uint32_t f = 0, g = 0, want = moves ? to_draw(walk, bonder) : to_look(walk);
     if (want == 0)
         ref_pair(walk.degree, walk.position, &f, &g);
     dw_walk *place = (dw_walk *)lend_copy(0, &walk, sizeof walk);
     uint32_t *to_f = lend_u32(1), *to_g = lend_u32(2);
-    count(moves ? dw_draw(place, to_f, to_g) : dw_look(place, to_f, to_g), want, moves ? "dw_draw" : "dw_look");
-    walk.position += moves && want == 0;
+    count(moves ? dw_draw(place, bonder, to_f, to_g) : dw_look(place, to_f, to_g), want, moves ? "dw_draw" : "dw_look");
+    if (moves && want == 0) {
+        walk.position++;
+        walk.counts[bonder]++;
+    }
     came_walk(0, moves ? want : 1, walk, moves ? "dw_draw: walk" : "dw_look: walk");
     came_u32(1, want, f, "dw_draw, dw_look: f");
     came_u32(2, want, g, "dw_draw, dw_look: g");
@@ -328,7 +346,8 @@ static dw_walk try_mark(dw_walk walk, uint32_t mark, int back)
     return walk;
 }
 
-static uint32_t some_mark(void)
+/* The number of a mark or a bonder: one of the eight, or above. */
+static uint32_t some_number(void)
 {
     return draw(8) ? draw(8) : draw(2) ? 8 + draw(2) : UINT32_MAX - draw(2);
 }
@@ -337,11 +356,11 @@ static uint32_t some_mark(void)
 static dw_walk try_call(dw_walk walk)
 {
     int second = (int)draw(2);
-    return draw(2) ? try_next(walk, second) : try_mark(walk, some_mark(), second);
+    return draw(2) ? try_next(walk, some_number(), second) : try_mark(walk, some_number(), second);
 }
 
 /* Calls on one record that is put near the end of the list, beyond it, or anywhere, with marks that are empty, anywhere, at the end or,
- * now and then, beyond it. */
+ * now and then, beyond it, and with counts that are anything up to full, full or nearly so, or, now and then, more. */
 static void try_walk(void)
 {
     uint32_t n = some_degree(1, 31), want = out_of_range(n) ? 1 : 0;
@@ -352,8 +371,10 @@ static void try_walk(void)
     count(dw_start(n, (dw_walk *)lend(0, sizeof walk)), want, "dw_start");
     came_walk(0, want, walk, "dw_start: walk");
     walk.position = draw(2) ? length - draw(3) + draw(3) : length ? draw64() % length : draw64();
-    for (int i = 0; i < 8; i++)
+    for (int i = 0; i < 8; i++) {
         walk.marks[i] = draw(2) ? 0 : draw(2) ? 1 + draw64() % (length + 1) : draw(16) ? length + draw(2) : length + 2 + draw64() % 3;
+        walk.counts[i] = draw(2) ? draw64() % full : draw(32) ? full - draw(3) : draw(2) ? full + 1 : UINT64_MAX;
+    }
     for (int i = 0; i < 8; i++)
         walk = try_call(walk);
 }
@@ -372,53 +393,82 @@ static void marks_at_the_end(void)
                 walk.position = i % 2 ? length : 0;
                 walk.marks[at] = stored[i / 2];
                 for (int second = 0; second < 2; second++) {
-                    try_next(walk, second);
+                    try_next(walk, 0, second);
                     for (int k = 0; k < 4; k++)
                         try_mark(walk, marks[k], second);
                 }
             }
 }
 
-/* A walk of many calls from a start on, against a model that sees the calls alone: where the walk is, and which of its marks are set and to
- * what place. A pair comes again only after a return. The record has no guard bytes here. */
-static void try_marked_walk(void)
+/* Counts of 0, one less than full, full, one more and 2^64 - 1, for each bonder and each call, on walks that are spent and that are not,
+ * alone and with a mark beyond the list; drawn for that bonder, for the next one, and for none of the eight. */
+static void full_counts(void)
+{
+    const uint64_t counts[] = { 0, full - 1, full, full + 1, UINT64_MAX };
+    for (uint32_t n = 0; n <= 32; n++)
+        for (uint32_t of = 0; of < 8; of++)
+            for (int i = 0; i < 20; i++) {
+                uint64_t length = out_of_range(n) ? 0 : ref_length(n);
+                const uint32_t bonders[] = { of, (of + 1) % 8, 7, 8, UINT32_MAX };
+                dw_walk walk;
+                memset(&walk, 0, sizeof walk);
+                walk.degree = n;
+                walk.position = i % 2 ? length : 0;
+                walk.marks[7 - of] = i / 2 % 2 ? length + 2 : 0;
+                walk.counts[of] = counts[i / 4];
+                for (int k = 0; k < 5; k++)
+                    for (int second = 0; second < 2; second++) {
+                        try_next(try_next(walk, bonders[k], second), bonders[k], 1);
+                        try_mark(walk, bonders[k], second);
+                    }
+            }
+}
+
+/* A walk of many calls from a start on, against a model that sees the calls alone: where the walk is, which of its marks are set and to
+ * what place, and how many pairs each bonder was given. A pair comes again only after a return. The record has no guard bytes here. */
+static void try_whole_walk(void)
 {
     static uint32_t drawn_in[64][64];
     uint32_t n = 1 + draw(5), returns = 1, f, g, pair[2];
-    uint64_t length = ref_length(n), place = 0, marked[8] = { 0 };
+    uint64_t length = ref_length(n), place = 0, marked[8] = { 0 }, given[8] = { 0 };
     int set[8] = { 0 };
     dw_walk walk;
     memset(drawn_in, 0, sizeof drawn_in);
-    count(dw_start(n, &walk), 0, "marked walk: start");
+    count(dw_start(n, &walk), 0, "whole walk: start");
     for (int i = 0; i < 600; i++) {
-        uint32_t kind = draw(24), mark = some_mark();
+        uint32_t kind = draw(24), number = some_number();
         if (kind == 0) {
-            count(dw_set_mark(&walk, mark), mark > 7 ? 18 : 0, "marked walk: set");
-            if (mark <= 7) {
-                set[mark] = 1;
-                marked[mark] = place;
+            count(dw_set_mark(&walk, number), number > 7 ? 18 : 0, "whole walk: set");
+            if (number <= 7) {
+                set[number] = 1;
+                marked[number] = place;
             }
         } else if (kind == 1) {
-            count(dw_go_back(&walk, mark), mark > 7 ? 18 : set[mark] ? 0 : 19, "marked walk: back");
-            if (mark <= 7 && set[mark]) {
-                place = marked[mark];
+            count(dw_go_back(&walk, number), number > 7 ? 18 : set[number] ? 0 : 19, "whole walk: back");
+            if (number <= 7 && set[number]) {
+                place = marked[number];
                 returns++;
             }
+        } else if (kind > 4 && number > 7) {
+            count(dw_draw(&walk, number, &f, &g), 20, "whole walk: no bonder");
         } else {
-            count(kind < 5 ? dw_look(&walk, &f, &g) : dw_draw(&walk, &f, &g), place == length ? DW_SPENT : 0, "marked walk: next");
+            count(kind < 5 ? dw_look(&walk, &f, &g) : dw_draw(&walk, number, &f, &g), place == length ? DW_SPENT : 0, "whole walk: next");
             if (place < length) {
                 ref_pair(n, place, &pair[0], &pair[1]);
-                expect(f == pair[0] && g == pair[1], "marked walk: pair");
+                expect(f == pair[0] && g == pair[1], "whole walk: pair");
             }
             if (place < length && kind >= 5) {
                 place++;
-                expect(drawn_in[f][g] != returns, "marked walk: repeat");
+                given[number]++;
+                expect(drawn_in[f][g] != returns, "whole walk: repeat");
                 drawn_in[f][g] = returns;
             }
         }
-        expect(walk.degree == n && walk.position == place, "marked walk: position");
-        for (int m = 0; m < 8; m++)
-            expect(walk.marks[m] == (set[m] ? marked[m] + 1 : 0), "marked walk: marks");
+        expect(walk.degree == n && walk.position == place, "whole walk: position");
+        for (int m = 0; m < 8; m++) {
+            expect(walk.marks[m] == (set[m] ? marked[m] + 1 : 0), "whole walk: marks");
+            expect(walk.counts[m] == given[m], "whole walk: counts");
+        }
     }
 }
 
@@ -753,8 +803,8 @@ static void kept_record(void)
     count(dw_start(4, &walk), 0, "kept record: start");
     kept = walk;
     walk.position = 41;
-    count(dw_draw(&walk, &f, &g), 0, "kept record: last");
-    expect(f == 19 && g == 25 && walk.position == 42, "kept record: pair 41");
+    count(dw_draw(&walk, 5, &f, &g), 0, "kept record: last");
+    expect(f == 19 && g == 25 && walk.position == 42 && walk.counts[5] == 1 && kept.counts[5] == 0, "kept record: pair 41");
     count(dw_look(&walk, &f, &g), DW_SPENT, "kept record: spent");
     count(dw_look(&kept, &f, &g), 0, "kept record: first");
     expect(f == 19 && g == 17 && kept.degree == 4 && kept.position == 0, "kept record: pair 0");
@@ -775,7 +825,7 @@ static void printed_entries(void)
     expect(f == 19 && g == 25, "degree 4: pair 41");
     dw_walk walk;
     count(dw_start(1, &walk), 0, "degree 1");
-    count(dw_draw(&walk, &f, &g), DW_SPENT, "degree 1: spent");
+    count(dw_draw(&walk, 0, &f, &g), DW_SPENT, "degree 1: spent");
 }
 
 /* Runs one part, in which each of the numbers, and spent where it is said, must be met. */
@@ -806,6 +856,7 @@ int main(int argc, char **argv)
     part("null pointers", null_pointers, 1, 2, 2, four | bit(9));
     part("kept record", kept_record, 1, 3, 3, spent);
     part("marks at the end", marks_at_the_end, 1, 18, 19, bit(3) | spent);
+    part("full counts", full_counts, 1, 18, 21, bit(3) | spent);
     part("dw_length", try_length, 100 * scale, 1, 1, 0);
     part("dw_pair_at", try_pair_at, 300 * scale, 1, 2, 0);
     part("dw_unordered_pair_at", try_unordered_pair_at, 300 * scale, 1, 2, 0);
@@ -815,8 +866,8 @@ int main(int argc, char **argv)
     part("dw_longest_chains", try_longest_chains, 10 * scale, 1, 1, 0);
     part("dw_site", try_site, 300 * scale, 5, 7, one);
     part("dw_sheet", try_sheet, 20 * scale, 6, 8, four | twelve);
-    part("the walk", try_walk, 50 * scale, 18, 19, one | bit(3) | spent);
-    part("marked walks", try_marked_walk, scale, 18, 19, spent);
+    part("the walk", try_walk, 50 * scale, 18, 21, one | bit(3) | spent);
+    part("whole walks", try_whole_walk, scale, 18, 20, spent);
     part("dw_write", try_write, 200 * scale, 14, 16, four | codes | twelve);
     part("dw_read", try_read, 200 * scale, 6, 17, four);
     return 0;

@@ -7,18 +7,29 @@ from reference import pair_at
 LAST = 2 * (4**30 - 1) // 3 - 1
 
 
-def turns(degree, position, mark, count, entry, length):
-    """Turns over a record whose mark 5 is stored as `mark`, 0 if it is empty; the others are empty."""
-    for _ in range(count):
-        if not 1 <= degree <= 31 or position > length or mark > length + 1:
-            answer = "refused 3"
+FULL = 10**18
+
+
+def turns(degree, position, mark, given, bonder, times, entry, length):
+    """Turns over a record whose mark 5 is stored as `mark` and whose count 6 is `given`, the others 0; each draws for the bonder."""
+    counts = [0] * 8
+    counts[6] = given
+    for _ in range(times):
+        if not 1 <= degree <= 31 or position > length or mark > length + 1 or max(counts) > FULL:
+            look = "refused 3"
         elif position == length:
-            answer = "spent"
+            look = "spent"
         else:
-            answer = "{} {}".format(*entry(position))
-        moved = position + 1 if answer[0].isdigit() else position
-        print(f"look: {answer} draw: {answer} record: {degree} {moved} 0 0 0 0 0 {mark} 0 0")
-        position = moved
+            look = "{} {}".format(*entry(position))
+        draw = look
+        if look != "refused 3" and bonder > 7:
+            draw = "refused 20"
+        elif look[0].isdigit() and counts[bonder] == FULL:
+            draw = "refused 21"
+        elif look[0].isdigit():
+            position += 1
+            counts[bonder] += 1
+        print(f"look: {look} draw: {draw} record: {degree} {position} 0 0 0 0 0 {mark} 0 0", *counts)
 
 
 def opened(reply, name=b"", powers=(), forces=()):
@@ -27,15 +38,23 @@ def opened(reply, name=b"", powers=(), forces=()):
 
 
 third = pairs(3)
-turns(3, 0, 0, 12, third.__getitem__, len(third))
-turns(3, 0, 11, 1, third.__getitem__, len(third))
-turns(3, 0, 12, 1, None, len(third))
-turns(1, 0, 1, 2, None, 0)
-turns(31, LAST, LAST + 2, 3, lambda position: pair_at(31, position), LAST + 1)
-turns(31, LAST + 1, 2**64 - 1, 1, None, LAST + 1)
-turns(31, LAST + 2, 0, 1, None, LAST + 1)
-turns(0, 0, 0, 1, None, 0)
-turns(32, 0, 0, 1, None, 0)
+of_third = third.__getitem__, len(third)
+turns(3, 0, 0, 0, 6, 12, *of_third)
+turns(3, 0, 11, 5, 0, 1, *of_third)
+turns(3, 0, 12, 0, 0, 1, *of_third)
+turns(3, 0, 0, FULL - 1, 6, 3, *of_third)
+turns(3, 0, 0, FULL, 7, 1, *of_third)
+turns(3, 10, 0, FULL, 6, 1, *of_third)
+turns(3, 0, 0, FULL + 1, 7, 1, *of_third)
+turns(3, 0, 0, 2**64 - 1, 8, 1, *of_third)
+turns(3, 0, 0, 0, 8, 1, *of_third)
+turns(3, 10, 0, 0, 2**32 - 1, 1, *of_third)
+turns(1, 0, 1, 0, 7, 2, None, 0)
+turns(31, LAST, LAST + 2, 0, 6, 3, lambda position: pair_at(31, position), LAST + 1)
+turns(31, LAST + 1, 2**64 - 1, 0, 0, 1, None, LAST + 1)
+turns(31, LAST + 2, 0, 0, 0, 1, None, LAST + 1)
+turns(0, 0, 0, 0, 0, 1, None, 0)
+turns(32, 0, 0, 0, 0, 1, None, 0)
 opened("2 7 5 18 3", b"A~ ", [100, 110, 120, 130], [200, 220, 240, 260])
 opened("refused 9")
 opened("refused 17")

@@ -312,13 +312,14 @@ def unordered():
 
 
 def walks():
-    """For each degree a checksum of what a start and 3000 calls answer, and of the position after them: the calls draw, but for every sixteenth,
-    which sets one of the marks 0 to 8, and every 64th, which goes back to one. Degrees 0 and 32 get 1 and then always 3."""
+    """For each degree a checksum of what a start and 3000 calls answer, and of the position and the counts after them: the calls draw for the
+    bonders 0 to 8 in turn, but for every sixteenth, which sets one of the marks 0 to 8, and every 64th, which goes back to one. Degrees 0
+    and 32 get 1 and then always 3."""
     for n in (*range(9), 32):
         if n in (0, 32):
-            print("walk", n, mixed(0, 1, *[3] * 3000, 0))
+            print("walk", n, mixed(0, 1, *[3] * 3000, *[0] * 9))
             continue
-        entries, place, marks, total = coprime_pairs(n), 0, {}, mixed(0, 0)
+        entries, place, marks, given, total = coprime_pairs(n), 0, {}, [0] * 8, mixed(0, 0)
         for i in range(3000):
             if i % 64 == 45:
                 mark = i // 64 % 9
@@ -329,12 +330,15 @@ def walks():
                 total = mixed(total, 18 if mark == 8 else 0)
                 if mark < 8:
                     marks[mark] = place
+            elif i % 9 == 8:
+                total = mixed(total, 20)
             elif place < len(entries):
                 total = mixed(total, *entries[place])
                 place += 1
+                given[i % 9] += 1
             else:
                 total = mixed(total, 255)
-        print("walk", n, mixed(total, place))
+        print("walk", n, mixed(total, place, *given))
 
 
 def spread():

@@ -112,7 +112,7 @@ static void calls_look(void)
 
 static void calls_draw(void)
 {
-    status = dw_draw(&walk, &first, &second);
+    status = dw_draw(&walk, n % DW_BONDERS, &first, &second);
 }
 
 static void calls_set_mark(void)

@@ -87,7 +87,7 @@ fn unordered_lines() {
     }
 }
 
-// Degree and checksum of a walk with marks; degrees 0 and 32 are refused throughout.
+// Degree and checksum of a walk with marks and bonders; degrees 0 and 32 are refused throughout.
 fn walk_line(n: u32) {
     io::write_all(STDOUT_FILENO, b"walk ");
     number(n as u64);

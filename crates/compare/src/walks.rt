@@ -1,4 +1,4 @@
-// Checksums of walks with marks set and returns.
+// Checksums of walks with marks set, returns, and draws for each bonder.
 use crate::random::mixed;
 use walk::Change;
 use walk::Changed;
@@ -19,8 +19,8 @@ fn shown(sum: u64, answer: Next) -> u64 {
     }
 }
 
-fn drawn(sum: u64, walk: Walk) -> Summed {
-    let next = walk.drawn();
+fn drawn(sum: u64, walk: Walk, bonder: u32) -> Summed {
+    let next = walk.drawn(bonder);
     let answer = next.answer;
     let walk = next.walk;
     Summed {
@@ -45,7 +45,7 @@ fn changed(sum: u64, change: Changed) -> Summed {
     }
 }
 
-// The i-th call: a mark is set at every sixteenth, a return made at every 64th, and the others draw. Mark 8 is refused.
+// The i-th call: a mark is set at every sixteenth, a return made at every 64th, and the others draw. Mark 8 and bonder 8 are refused.
 fn called(at: Summed, i: u64) -> Summed {
     let sum = at.sum;
     let walk = at.walk;
@@ -55,10 +55,18 @@ fn called(at: Summed, i: u64) -> Summed {
     if i % 16 == 5 {
         return changed(sum, walk.set_mark((i / 16 % 9) as u32));
     }
-    drawn(sum, walk)
+    drawn(sum, walk, (i % 9) as u32)
 }
 
-// The checksum of 3000 calls, and the position after them.
+fn counted(sum: u64, counts: [u64; 8]) -> u64 {
+    let mut all = sum;
+    for i in 0..8usize {
+        all = mixed(all, counts[i]);
+    }
+    all
+}
+
+// The checksum of 3000 calls, and the position and the counts after them.
 pub fn walk_sum(n: u32) -> u64 {
     let started = walk::start(n);
     let mut at = changed(0, started);
@@ -66,5 +74,6 @@ pub fn walk_sum(n: u32) -> u64 {
         at = called(at, i);
     }
     let end = at.walk;
-    mixed(at.sum, end.position)
+    let counts = end.counts;
+    counted(mixed(at.sum, end.position), counts)
 }

@@ -8,7 +8,7 @@ use Rattle.trial.specs.Parser.{Parsed}
 use Rattle.trial.specs.Trial.{Trial}
 use Rattle.trial.specs.Replies.{read, readReply, nameRead, levelsAfter, writeReply, fileAfter}
 use Rattle.walk.specs.declared.Walk.{Walk}
-use Rattle.walk.specs.Walks.{begun, startReply, lookReply, afterDraw, setMarkReply, afterSetMark, goBackReply, afterGoBack}
+use Rattle.walk.specs.Walks.{begun, startReply, lookReply, drawReply, afterDraw, setMarkReply, afterSetMark, goBackReply, afterGoBack}
 use Rattle.console.specs.Status.{status, value}
 
 -- What reading a file gives, with these two slices lent for the levels.
@@ -19,32 +19,34 @@ readInto file powers forces = read (length powers) (length forces) file
 abbrev pub trialReply : List ℕ → List ℕ → List ℕ → Reply
 trialReply file powers forces = readReply (length file) (readInto file powers forces)
 
--- A start: what it returns, and the record after it, with what stood there before.
-pub record Starts (n : ℕ) (walk walk′ : Walk) (r : ℕ) : Type 0 where
-  pub returned : r ≡ status (startReply n)
-  pub stored : walk′ ≡ after (startReply n) (begun n) walk
+-- A call that changes a record and gives no values: what it returns, and the record after it.
+pub record Changes (reply : Reply) (changed walk′ : Walk) (r : ℕ) : Type 0 where
+  pub returned : r ≡ status reply
+  pub stored : walk′ ≡ changed
 
--- A look: what it returns, and what stands behind the two pointers after it, with what stood there before.
-pub record Looks (walk : Walk) (f g f′ g′ r : ℕ) : Type 0 where
-  pub returned : r ≡ status (lookReply walk)
-  pub first : f′ ≡ value 0 (lookReply walk) f
-  pub second : g′ ≡ value 1 (lookReply walk) g
+-- A start, with what stood in the record before; setting a mark; going back to one.
+abbrev pub Starts : ℕ → Walk → Walk → ℕ → Type 0
+Starts n walk = Changes (startReply n) (after (startReply n) (begun n) walk)
 
--- A draw: the same, and the record after it.
-pub record Draws (walk walk′ : Walk) (f g f′ g′ r : ℕ) : Type 0 where
-  pub returned : r ≡ status (lookReply walk)
-  pub moved : walk′ ≡ afterDraw walk
-  pub first : f′ ≡ value 0 (lookReply walk) f
-  pub second : g′ ≡ value 1 (lookReply walk) g
+abbrev pub SetsMark : Walk → ℕ → Walk → ℕ → Type 0
+SetsMark walk mark = Changes (setMarkReply walk mark) (afterSetMark walk mark)
 
--- Setting a mark, and going back to one: what it returns, and the record after it.
-pub record SetsMark (walk : Walk) (mark : ℕ) (walk′ : Walk) (r : ℕ) : Type 0 where
-  pub returned : r ≡ status (setMarkReply walk mark)
-  pub stored : walk′ ≡ afterSetMark walk mark
+abbrev pub GoesBack : Walk → ℕ → Walk → ℕ → Type 0
+GoesBack walk mark = Changes (goBackReply walk mark) (afterGoBack walk mark)
 
-pub record GoesBack (walk : Walk) (mark : ℕ) (walk′ : Walk) (r : ℕ) : Type 0 where
-  pub returned : r ≡ status (goBackReply walk mark)
-  pub stored : walk′ ≡ afterGoBack walk mark
+-- A call that gives a pair: what it returns, and what stands behind the two pointers after it, with what stood there before.
+pub record Gives (reply : Reply) (f g f′ g′ r : ℕ) : Type 0 where
+  pub returned : r ≡ status reply
+  pub first : f′ ≡ value 0 reply f
+  pub second : g′ ≡ value 1 reply g
+
+abbrev pub Looks : Walk → ℕ → ℕ → ℕ → ℕ → ℕ → Type 0
+Looks walk = Gives (lookReply walk)
+
+-- A draw for a bonder: the same, and the record after it.
+pub record Draws (walk : Walk) (bonder : ℕ) (walk′ : Walk) (f g f′ g′ r : ℕ) : Type 0 where
+  pub answered : Gives (drawReply walk bonder) f g f′ g′ r
+  pub moved : walk′ ≡ afterDraw walk bonder
 
 -- Reading a file: what it returns, the two slices of levels after it, and what stands behind the five pointers after it, with what stood
 -- there before; and that the part of the file which the last two point at is the name.

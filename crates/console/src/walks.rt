@@ -5,8 +5,8 @@ use walk::Next;
 use walk::Walk;
 ghost use mathlib.Core.Path.{_≡_};
 ghost use Rattle.walk.specs.Walks.{begun, changeReply, nextReply};
-ghost use Rattle.console.specs.Status.{status, value};
-ghost use Rattle.console.specs.Records.{Starts, Looks, Draws, SetsMark, GoesBack};
+ghost use Rattle.console.specs.Status.{status};
+ghost use Rattle.console.specs.Records.{Gives, Starts, Looks, Draws, SetsMark, GoesBack};
 
 // What look and draw return at the end of a list.
 const SPENT: u32 = 255;
@@ -56,9 +56,7 @@ fn gone_back(walk: Walk, mark: u32) -> Outcome
 
 // The status of this answer to a look or a draw; if it is a pair, its codes are stored in f and g.
 fn passed_on(answer: Next, f: &mut u32, g: &mut u32) -> u32
-    ensures { λ r. ⌜ r ≡ status (nextReply answer) ⌝ }
-    ensures { λ _. ⌜ now (f .exit) ≡ value 0 (nextReply answer) (now (f .entry)) ⌝ }
-    ensures { λ _. ⌜ now (g .exit) ≡ value 1 (nextReply answer) (now (g .entry)) ⌝ }
+    ensures { λ r. ⌜ Gives (nextReply answer) (now (f .entry)) (now (g .entry)) (now (f .exit)) (now (g .exit)) r ⌝ }
 {
     match answer {
         Next::Refused(refusal) => refusal.number(),
@@ -78,10 +76,10 @@ fn looked(walk: Walk, f: &mut u32, g: &mut u32) -> u32
     passed_on(answer, f, g)
 }
 
-fn drawn(walk: Walk, f: &mut u32, g: &mut u32) -> Outcome
-    ensures { λ r. ⌜ Draws walk (r .walk) (now (f .entry)) (now (g .entry)) (now (f .exit)) (now (g .exit)) (r .status) ⌝ }
+fn drawn(walk: Walk, bonder: u32, f: &mut u32, g: &mut u32) -> Outcome
+    ensures { λ r. ⌜ Draws walk bonder (r .walk) (now (f .entry)) (now (g .entry)) (now (f .exit)) (now (g .exit)) (r .status) ⌝ }
 {
-    let next = walk.drawn();
+    let next = walk.drawn(bonder);
     let answer = next.answer;
     let after = next.walk;
     let status = passed_on(answer, f, g);
@@ -102,6 +100,7 @@ pub extern "C" fn dw_start(n: u32, walk: &mut Walk) -> u32
         walk.degree = outcome.walk.degree;
         walk.position = outcome.walk.position;
         walk.marks = outcome.walk.marks;
+        walk.counts = outcome.walk.counts;
     }
     outcome.status
 }
@@ -115,17 +114,18 @@ pub extern "C" fn dw_look(walk: &Walk, f: &mut u32, g: &mut u32) -> u32
     looked(here, f, g)
 }
 
-// A draw from a walk that the console lends.
+// A draw for a bonder from a walk that the console lends.
 #[no_mangle]
-pub extern "C" fn dw_draw(walk: &mut Walk, f: &mut u32, g: &mut u32) -> u32
+pub extern "C" fn dw_draw(walk: &mut Walk, bonder: u32, f: &mut u32, g: &mut u32) -> u32
     ensures { λ r.
-        ⌜ Draws (now (walk .entry)) (now (walk .exit)) (now (f .entry)) (now (g .entry)) (now (f .exit)) (now (g .exit)) r ⌝ }
+        ⌜ Draws (now (walk .entry)) bonder (now (walk .exit)) (now (f .entry)) (now (g .entry)) (now (f .exit)) (now (g .exit)) r ⌝ }
 {
     let here = *walk;
-    let outcome = drawn(here, f, g);
+    let outcome = drawn(here, bonder, f, g);
     if outcome.status == 0 {
         // All that a draw changes: the marks need not be written back.
         walk.position = outcome.walk.position;
+        walk.counts = outcome.walk.counts;
     }
     outcome.status
 }

@@ -3,7 +3,7 @@
 use mathlib.Core.Path.{_≡_}
 use Prim.Native.Nat.{ℕ, suc}
 use mathlib.Core.List.{List, [], _∷_, _++_, map}
-use lib.ListN.{length, take, replicate}
+use lib.ListN.{getD, length, take, replicate}
 use Rattle.reply.specs.Reply.{Reply, served, refused, spent}
 use Rattle.poly.specs.Replies.{orderReply, lengthReply}
 use Rattle.euclid.specs.Replies.{chainReply, chainContent}
@@ -12,7 +12,7 @@ use Rattle.positions.specs.Replies.{positionReply}
 use Rattle.listing.specs.Replies.{fromReply}
 use Rattle.squares.specs.Replies.{siteReply, sheetReply, sheetBytes}
 use Rattle.walk.specs.declared.Walk.{Walk}
-use Rattle.walk.specs.Walks.{startReply, started, lookReply, afterDraw}
+use Rattle.walk.specs.Walks.{startReply, started, lookReply, drawReply, afterDraw}
 use Rattle.trial.specs.Trial.{Trial, trialFrom}
 use Rattle.trial.specs.Replies.{read, readReply, nameRead, levelsAfter, writeReply, fileAfter}
 
@@ -92,16 +92,17 @@ laid =
 abbrev pub sheets : List Case
 sheets = sheetReply 2 7 5 34 is served [] ∷ served (sheetBytes 2 7 5 (zeros 34)) is served (laid ++ zeros 2) ∷ []
 
--- Degree 1: the first draw says spent, and leaves the record.
+-- Degree 1: the first draw says spent, and leaves degree, position and the bonder's count.
 abbrev pub fields : Walk → List ℕ
-fields walk = walk .degree ∷ walk .position ∷ []
+fields walk = walk .degree ∷ walk .position ∷ getD (walk .counts) 0 0 ∷ []
 
 abbrev pub walks : List Case
 walks =
     startReply 1 is served []
-    ∷ served (fields (started 1)) is served (1 ∷ 0 ∷ [])
+    ∷ served (fields (started 1)) is served (1 ∷ 0 ∷ 0 ∷ [])
     ∷ lookReply (started 1) is spent
-    ∷ served (fields (afterDraw (started 1))) is served (1 ∷ 0 ∷ [])
+    ∷ drawReply (started 1) 0 is spent
+    ∷ served (fields (afterDraw (started 1) 0)) is served (1 ∷ 0 ∷ 0 ∷ [])
     ∷ []
 
 -- Degrees 0 and 32, at each call that answers them with 1.

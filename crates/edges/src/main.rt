@@ -95,6 +95,7 @@ fn position(n: u32) {
 fn record(walk: Walk) {
     number(walk.degree as u64);
     number(walk.position);
+    number(walk.counts[0]);
 }
 
 fn start(n: u32) {
@@ -123,11 +124,11 @@ fn next(answer: Next) {
     text(b"\n");
 }
 
-// A look, a draw, and the record after them.
+// A look, a draw for bonder 0, and the record after them.
 fn walk(n: u32) {
     let started = walk::start(n);
     let begun = started.walk;
-    let drawn = begun.drawn();
+    let drawn = begun.drawn(0);
     text(b"look:");
     next(begun.look());
     text(b"draw:");

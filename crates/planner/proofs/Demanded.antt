@@ -17,7 +17,7 @@ use Rattle.squares.specs.Symbols.{symbol}
 use Rattle.squares.specs.Replies.{siteCauses, siteReply}
 use Rattle.squares.proofs.Claims.{squares-orthogonal}
 use Rattle.walk.specs.Walks.{begun}
-use Rattle.walk.proofs.Claims.{begun-sound, walk-goes-on, plain}
+use Rattle.walk.proofs.Claims.{begun-sound, walk-goes-on, plain, fresh, full}
 use Rattle.planner.specs.Demand.{Polynomial, DemandThree}
 
 module _ (n : ℕ) (low : 1 ≤ n) (high : n ≤ 31) where
@@ -39,10 +39,14 @@ demand-three n low high =
     record {
       begins = rw (inside 1 31 low high) (refl, refl);
       walk = λ calls. goes-on calls .walked;
+      decided = λ calls. goes-on calls .decided;
       runs-on = λ calls. goes-on calls .runs-on;
       no-repeat = λ calls. goes-on calls .no-repeat;
       comes-back = λ calls. goes-on calls .comes-back;
+      counted = λ calls. goes-on calls .counted;
+      fresh = fresh n low high;
       plain = plain n low high;
+      full = full n low high;
       long = long;
       pair = pair-answers n low high;
       found = entry-found n low high;

@@ -1,7 +1,7 @@
--- Demand 3, whole, with the marks of document 02, request c. It is about what the calls answer: `startReply` and `started` are the reply
--- and the record that the contract of start gives, `replyTo` and `recordAfter`, over which a list of calls runs, are those of look, draw,
--- setting a mark and going back, `pairAtReply`, `positionReply` and `siteReply` those of the pair call, the position call and the site
--- call. The fields that name them tie the list of pairs and the squares to these calls.
+-- Demand 3, whole, with the marks and the bonders of document 02, requests c and g. It is about what the calls answer: `startReply` and
+-- `started` are the reply and the record that the contract of start gives, `replyTo` and `recordAfter`, over which a list of calls runs,
+-- are those of look, draw, setting a mark and going back, `pairAtReply`, `positionReply` and `siteReply` those of the pair call, the
+-- position call and the site call. The fields that name them tie the list of pairs and the squares to these calls.
 use mathlib.Core.Logic.{_↔_}
 use mathlib.Core.List.{List, [], _∷_}
 use mathlib.Core.Path.{_≡_}
@@ -20,7 +20,7 @@ use Rattle.squares.specs.Symbols.{symbol}
 use Rattle.squares.specs.Replies.{siteReply}
 use Rattle.walk.specs.Walks.{begun, startReply, started}
 use Rattle.walk.specs.Calls.{Call, answers, returns}
-use Rattle.walk.specs.Claims.{Walked, RunsOn, NoRepeat, ComesBack, Plain}
+use Rattle.walk.specs.Claims.{Walked, Decided, RunsOn, NoRepeat, ComesBack, Counted, Plain, Fresh, Full}
 
 -- A code of degree n with constant term one.
 pub record Polynomial (n code : ℕ) : Type 0 where
@@ -33,16 +33,26 @@ pub record Demand (n : ℕ) : Type 0 where
   -- For every list of looks, draws, marks set and returns on it: each answer is the one that the calls and answers before it say, and so is
   -- the record afterwards; no answer is number 3.
   pub walk : (calls : List Call) → Walked (begun n) calls
+  -- Which call is served and which refused, and by which number.
+  pub decided : (calls : List Call) → Decided (begun n) calls
   -- From the start or a return up to the next one, marks set or not, the draws run on through the list.
   pub runs-on : (calls : List Call) → RunsOn (begun n) calls
   -- A pair is drawn again only if a return was served since.
   pub no-repeat : (calls : List Call) → NoRepeat (begun n) calls
   -- Setting a mark stores where the walk is, and going back takes that up.
   pub comes-back : (calls : List Call) → ComesBack (begun n) calls
-  -- Where no return is served: a look or a draw with j draws before it that were not refused gives the pair at position j if j is below L,
-  -- and says spent exactly when j is L or more; none is refused; and afterwards the record has degree n and, as its position, the smaller
-  -- of L and the number of draws that were not refused.
+  -- No count ever falls, and each depends on the draws for its bonder that gave a pair, and on nothing else.
+  pub counted : (calls : List Call) → Counted (begun n) calls
+  -- The count of a bonder is how many draws for it gave a pair, and the eight add up to all draws that gave one; a mark is empty until it
+  -- is set.
+  pub fresh : (calls : List Call) → Fresh n calls
+  -- Where no return is served: no look is refused, and a draw exactly where its bonder is above 7, by 20; a look or a draw that is not
+  -- refused, with j draws before it that were not, gives the pair at position j if j is below L, and says spent exactly when j is L or
+  -- more; and afterwards the record has degree n and, as its position, the smaller of L and the number of draws that were not refused,
+  -- which is what the eight counts add up to.
   pub plain : (calls : List Call) → returns (answers (begun n) calls) ≡ 0 → Plain n calls
+  -- Where a count is 10^18, a return was served before, and so before any 21.
+  pub full : (calls : List Call) → Full n calls
   -- L is the length of the list of pairs.
   pub long : length (pairs n) ≡ listLength n
   -- The pair at a position is what the pair call gives, and the position call finds it there.

@@ -102,7 +102,7 @@ length-served n = count-served n (listLength n)
 pub length-refused : (n : ℕ) {k : ℕ} → refused k ≡ lengthReply n → outside 1 31 n ≡ true
 length-refused n e = count-refused n (listLength n) e .0
 
-pub list-length-lt : (n : ℕ) → n ≤ 31 → listLength n < 2 ^ 61
+pub list-length-lt : (n : ℕ) → n ≤ 31 → listLength n < 10 ^ 18
 list-length-lt n h =
     let top : 4 ^ (n - 1) ≤ 4 ^ 30 = pow-le-pow-right (lit< tt) {i = n - 1} {j = 30} (omega arith) in
     omega arith

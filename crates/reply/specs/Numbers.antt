@@ -5,14 +5,15 @@ use Rattle.reply.specs.declared.Refusal.the-variants.{DegreeRange, Posit
 use Rattle.reply.specs.declared.Refusal.the-variants.{CodeDegree, ConstantTerm, CommonFactor}
 use Rattle.reply.specs.declared.Refusal.the-variants.{FileEnds, NumberForm, Version, SheetDegree, LevelRange, LevelRepeated}
 use Rattle.reply.specs.declared.Refusal.the-variants.{NameLength, NameByte, TrailingBytes}
-use Rattle.reply.specs.declared.Refusal.the-variants.{MarkRange, MarkEmpty}
+use Rattle.reply.specs.declared.Refusal.the-variants.{MarkRange, MarkEmpty, BonderRange, BonderFull}
 
 abbrev pub numberOf : Refusal → ℕ
 -- degree outside 1 to 31 (sheet: 12 instead)
 numberOf DegreeRange = 1
 -- position not below the list's length; in the second list, entry not below half that length (document 02, request b)
 numberOf PositionRange = 2
--- walk record with degree outside 1 to 31, position above the length, or a set mark beyond the length (document 02, request c)
+-- walk record with degree outside 1 to 31, position above the length, a set mark beyond the length (document 02, request c), or a count
+-- above 1000000000000000000 (document 02, request g)
 numberOf WalkRecord = 3
 -- a lent slice too short; for the writer also a level list not of length 2^n
 numberOf SliceLength = 4
@@ -46,3 +47,7 @@ numberOf TrailingBytes = 17
 numberOf MarkRange = 18
 -- going back to an empty mark (document 02, request c)
 numberOf MarkEmpty = 19
+-- bonder above 7 (document 02, request g)
+numberOf BonderRange = 20
+-- the bonder's count is 1000000000000000000 and a pair is there to give (document 02, request g)
+numberOf BonderFull = 21

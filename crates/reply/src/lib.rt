@@ -26,6 +26,8 @@ pub enum Refusal {
     // Caused by the console.
     MarkRange,
     MarkEmpty,
+    BonderRange,
+    BonderFull,
 }
 
 impl Refusal {
@@ -53,6 +55,8 @@ impl Refusal {
             Refusal::TrailingBytes => 17,
             Refusal::MarkRange => 18,
             Refusal::MarkEmpty => 19,
+            Refusal::BonderRange => 20,
+            Refusal::BonderFull => 21,
         }
     }
 }

@@ -29,9 +29,14 @@ module _ (most : ℕ) where
   not-above (x ∷ l) e zero = ltb-false most x (neither (ltb most x) (anyAbove most l) e .0)
   not-above (x ∷ l) e (suc i) = not-above l (neither (ltb most x) (anyAbove most l) e .1) i
 
-  pub set-not-above : (l : List ℕ) → anyAbove most l ≡ false → (i v : ℕ) → v ≤ most → anyAbove most (set l i v) ≡ false
-  set-not-above [] e i v h = refl
-  set-not-above (x ∷ l) e zero v h = rw (le-ltb most v h) (neither (ltb most x) (anyAbove most l) e .1)
-  set-not-above (x ∷ l) e (suc i) v h =
-      let (a, b) = neither (ltb most x) (anyAbove most l) e in
-      rw a (set-not-above l b i v h)
+  pub none-above : (l : List ℕ) → ((i : ℕ) → getD l i 0 ≤ most) → anyAbove most l ≡ false
+  none-above [] h = refl
+  none-above (x ∷ l) h = rw (le-ltb most x (h 0)) (none-above l (λ i. h (suc i)))
+
+  -- the same with one number replaced
+  pub set-most : (l : List ℕ) → ((i : ℕ) → getD l i 0 ≤ most) → (place v : ℕ) → v ≤ most → (i : ℕ) → getD (set l place v) i 0 ≤ most
+  set-most [] h place v le i = h i
+  set-most (x ∷ l) h zero v le zero = le
+  set-most (x ∷ l) h zero v le (suc i) = h (suc i)
+  set-most (x ∷ l) h (suc place) v le zero = h 0
+  set-most (x ∷ l) h (suc place) v le (suc i) = set-most l (λ i. h (suc i)) place v le i

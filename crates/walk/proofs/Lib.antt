@@ -1,9 +1,14 @@
 pub mod Above
+pub mod Tests
 pub mod Looks
+pub mod Draws
 pub mod Marks
 pub mod Setting
+pub mod Soundness
 pub mod Told
 pub mod Walking
 pub mod Running
 pub mod Returning
+pub mod Counting
+pub mod Deciding
 pub mod Claims

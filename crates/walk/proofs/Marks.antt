@@ -1,60 +1,48 @@
 -- The replies to setting a mark and to going back, case by case, and the record after them.
-use mathlib.Core.Bool.{true, false}
 use mathlib.Core.List.{[], _∷_}
-use mathlib.Core.Path.{_≡_, sym}
-use Prim.Native.Nat.{ℕ, _+_, _-_, _≤_, _<_}
-use borrow.Author.Tests.{lt-ltb, le-ltb, ltb-false, ne-eqb}
+use mathlib.Core.Path.{_≡_, refl}
+use Prim.Native.Nat.{ℕ, _+_, _-_}
+use borrow.Author.Tests.{ne-eqb}
 use lib.ListN.{getD, set}
 use Rattle.reply.specs.Reply.{served, refused}
-use Rattle.reply.proofs.Order.{passed, failed, none-applies, kept}
+use Rattle.reply.proofs.Order.{passed, failed, kept}
 use Rattle.walk.specs.declared.Walk.{Walk}
-use Rattle.walk.specs.Walks.{badRecord, recordCause, markCause, emptyCause, setMarkReply, afterSetMark, goBackReply, afterGoBack}
+use Rattle.walk.specs.Walks.{recordCause, markCause, emptyCause, setMarkReply, afterSetMark, goBackReply, afterGoBack}
+use Rattle.walk.proofs.Tests.{tested}
 
 module _ (walk : Walk) (mark : ℕ) where
   -- ---- setting
-  pub set-bad : badRecord walk ≡ true → refused 3 ≡ setMarkReply walk mark
+  pub set-tested : tested walk mark 18 ≡ setMarkReply walk mark
   unfolding setMarkReply
-  set-bad e = rw e
-
-  module _ (good : badRecord walk ≡ false) where
-    pub set-range : 7 < mark → refused 18 ≡ setMarkReply walk mark
-    unfolding setMarkReply
-    set-range l = rw (good, lt-ltb 7 mark l)
-
-    pub set-served : mark ≤ 7 → served [] ≡ setMarkReply walk mark
-    unfolding setMarkReply
-    set-served l = rw (good, le-ltb 7 mark l)
-
-  -- what is known where it is served: the record is good, and the mark one of the eight
-  pub set-known : served [] ≡ setMarkReply walk mark → (badRecord walk ≡ false) × (mark ≤ 7)
-  unfolding setMarkReply
-  set-known e =
-      let (good, (range, end)) = none-applies (recordCause walk ∷ markCause mark ∷ []) [] [] (sym e) in
-      (good, ltb-false 7 mark range)
+  set-tested = refl
 
   pub set-refused : {k : ℕ} → refused k ≡ setMarkReply walk mark → walk ≡ afterSetMark walk mark
   unfolding afterSetMark
   set-refused e = kept e _ walk
 
   pub set-done : served [] ≡ setMarkReply walk mark
-      → record { degree = walk .degree; position = walk .position; marks = set (walk .marks) mark (walk .position + 1) }
-      ≡ afterSetMark walk mark
+      → record {
+        degree = walk .degree;
+        position = walk .position;
+        marks = set (walk .marks) mark (walk .position + 1);
+        counts = walk .counts;
+      } ≡ afterSetMark walk mark
   unfolding afterSetMark
   set-done e = rw (← e)
 
   -- ---- going back, which is refused where setting is
-  pub back-unset : {k : ℕ} → refused k ≡ setMarkReply walk mark → refused k ≡ goBackReply walk mark
-  unfolding setMarkReply goBackReply
-  back-unset e = failed (emptyCause (walk .marks) mark ∷ []) (served []) (recordCause walk ∷ markCause mark ∷ []) e
+  pub back-untested : {k : ℕ} → refused k ≡ tested walk mark 18 → refused k ≡ goBackReply walk mark
+  unfolding goBackReply
+  back-untested e = failed (emptyCause (walk .marks) mark ∷ []) (served []) (recordCause walk ∷ markCause mark ∷ []) e
 
-  module _ (first : served [] ≡ setMarkReply walk mark) where
+  module _ (first : served [] ≡ tested walk mark 18) where
     pub back-empty : getD (walk .marks) mark 0 ≡ 0 → refused 19 ≡ goBackReply walk mark
-    unfolding setMarkReply goBackReply
+    unfolding goBackReply
     back-empty e =
         rw (passed (emptyCause (walk .marks) mark ∷ []) (served []) (recordCause walk ∷ markCause mark ∷ []) first, e)
 
     pub back-served : (getD (walk .marks) mark 0 ≡ 0 → ⊥) → served [] ≡ goBackReply walk mark
-    unfolding setMarkReply goBackReply
+    unfolding goBackReply
     back-served ne =
         rw (
           passed (emptyCause (walk .marks) mark ∷ []) (served []) (recordCause walk ∷ markCause mark ∷ []) first,
@@ -66,6 +54,11 @@ module _ (walk : Walk) (mark : ℕ) where
   back-refused e = kept e _ walk
 
   pub back-done : served [] ≡ goBackReply walk mark
-      → record { degree = walk .degree; position = getD (walk .marks) mark 0 - 1; marks = walk .marks } ≡ afterGoBack walk mark
+      → record {
+        degree = walk .degree;
+        position = getD (walk .marks) mark 0 - 1;
+        marks = walk .marks;
+        counts = walk .counts;
+      } ≡ afterGoBack walk mark
   unfolding afterGoBack
   back-done e = rw (← e)

@@ -7,7 +7,7 @@ use native.Mathlib.Nat.{add-zero, add-assoc}
 use native.Mathlib.Decide.{ℕ-discrete}
 use native.Mathlib.Omega.{arith}
 use borrow.Author.Tests.{eq-eqb}
-use lib.ListN.{length, getD, take, drop, take-append-drop, length-set}
+use lib.ListN.{getD, take, drop, take-append-drop}
 use lib.Seq.{take-take, getD-set-other}
 use Rattle.reply.specs.Reply.{Reply, served, refused, spent}
 use Rattle.walk.specs.Calls.{Call, look, draw, setMark, goBack, Answered, howMany, drew, returned, draws, returns, sets}
@@ -29,7 +29,7 @@ told-between n past l i k h =
 one-on : (n : ℕ) (past : Past) (call : Call) (reply : Reply) → returned call reply ≡ 0
     → told n call reply past .place ≡ past .place + drew call reply
 one-on n past look reply e = sym (add-zero (past .place))
-one-on n past draw reply e = refl
+one-on n past (draw bonder) reply e = refl
 one-on n past (setMark mark) (served values) e = sym (add-zero (past .place))
 one-on n past (setMark mark) spent e = sym (add-zero (past .place))
 one-on n past (setMark mark) (refused number) e = sym (add-zero (past .place))
@@ -52,26 +52,11 @@ take-many kind (suc k) [] = omega arith
 take-many kind (suc k) (first ∷ rest) = let ih = take-many kind k rest in omega arith
 
 -- ---- the marks
-pub told-long : (n : ℕ) (call : Call) (reply : Reply) (past : Past) → length (told n call reply past .marks) ≡ length (past .marks)
-told-long n look reply past = refl
-told-long n draw reply past = refl
-told-long n (setMark mark) (served values) past = length-set (past .marks) mark _
-told-long n (setMark mark) spent past = refl
-told-long n (setMark mark) (refused number) past = refl
-told-long n (goBack mark) (served values) past = refl
-told-long n (goBack mark) spent past = refl
-told-long n (goBack mark) (refused number) past = refl
-
-pub all-long : (n : ℕ) (past : Past) (l : List Answered) → length (allTold n past l .marks) ≡ length (past .marks)
-all-long n past [] = refl
-all-long n past (first ∷ rest) =
-    all-long n (told n (first .call) (first .reply) past) rest ∙ told-long n (first .call) (first .reply) past
-
 -- a mark that is not set stays
 told-kept : (n mark : ℕ) (call : Call) (reply : Reply) (past : Past) → sets mark call reply ≡ 0
     → getD (told n call reply past .marks) mark 0 ≡ getD (past .marks) mark 0
 told-kept n mark look reply past e = refl
-told-kept n mark draw reply past e = refl
+told-kept n mark (draw bonder) reply past e = refl
 told-kept n mark (setMark other) (served values) past e = go (ℕ-discrete mark other)
   where
     go : Dec (mark ≡ other) → getD (told n (setMark other) (served values) past .marks) mark 0 ≡ getD (past .marks) mark 0

@@ -6,11 +6,12 @@ use lib.Dec.{eqb}
 use lib.ListN.{getD, take, drop}
 use Rattle.reply.specs.Reply.{Reply, served, refused, spent}
 use Rattle.walk.specs.declared.Walk.{Walk}
-use Rattle.walk.specs.Walks.{lookReply, afterDraw, setMarkReply, afterSetMark, goBackReply, afterGoBack}
+use Rattle.walk.specs.Walks.{lookReply, drawReply, afterDraw, setMarkReply, afterSetMark, goBackReply, afterGoBack}
 
+-- A draw has the number of its bonder; setting a mark and going back have that of the mark.
 pub data Call : Type 0 where
   look : Call
-  draw : Call
+  draw : ℕ → Call
   setMark : ℕ → Call
   goBack : ℕ → Call
 
@@ -22,13 +23,13 @@ pub record Answered : Type 0 where
 -- What a call answers to a record, and the record after it, as the contracts of the four calls have them.
 abbrev pub replyTo : Call → Walk → Reply
 replyTo look walk = lookReply walk
-replyTo draw walk = lookReply walk
+replyTo (draw bonder) walk = drawReply walk bonder
 replyTo (setMark mark) walk = setMarkReply walk mark
 replyTo (goBack mark) walk = goBackReply walk mark
 
 abbrev pub recordAfter : Call → Walk → Walk
 recordAfter look walk = walk
-recordAfter draw walk = afterDraw walk
+recordAfter (draw bonder) walk = afterDraw walk bonder
 recordAfter (setMark mark) walk = afterSetMark walk mark
 recordAfter (goBack mark) walk = afterGoBack walk mark
 
@@ -60,9 +61,9 @@ howMany kind (first ∷ rest) = kind (first .call) (first .reply) + howMany kind
 
 -- Draws that were not refused.
 abbrev pub drew : Call → Reply → ℕ
-drew draw (served values) = 1
-drew draw spent = 1
-drew draw (refused number) = 0
+drew (draw bonder) (served values) = 1
+drew (draw bonder) spent = 1
+drew (draw bonder) (refused number) = 0
 drew look reply = 0
 drew (setMark mark) reply = 0
 drew (goBack mark) reply = 0
@@ -73,7 +74,7 @@ returned (goBack mark) (served values) = 1
 returned (goBack mark) spent = 0
 returned (goBack mark) (refused number) = 0
 returned look reply = 0
-returned draw reply = 0
+returned (draw bonder) reply = 0
 returned (setMark mark) reply = 0
 
 abbrev pub draws : List Answered → ℕ
@@ -88,5 +89,23 @@ sets mark (setMark other) (served values) = cond (eqb mark other) 1 0
 sets mark (setMark other) spent = 0
 sets mark (setMark other) (refused number) = 0
 sets mark look reply = 0
-sets mark draw reply = 0
+sets mark (draw bonder) reply = 0
 sets mark (goBack other) reply = 0
+
+-- Draws for one bonder that gave a pair.
+abbrev pub givenTo : ℕ → Call → Reply → ℕ
+givenTo bonder (draw other) (served values) = cond (eqb bonder other) 1 0
+givenTo bonder (draw other) spent = 0
+givenTo bonder (draw other) (refused number) = 0
+givenTo bonder look reply = 0
+givenTo bonder (setMark mark) reply = 0
+givenTo bonder (goBack mark) reply = 0
+
+-- Draws that gave a pair, for whatever bonder.
+abbrev pub gave : Call → Reply → ℕ
+gave (draw bonder) (served values) = 1
+gave (draw bonder) spent = 0
+gave (draw bonder) (refused number) = 0
+gave look reply = 0
+gave (setMark mark) reply = 0
+gave (goBack mark) reply = 0

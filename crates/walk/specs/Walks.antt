@@ -1,7 +1,7 @@
--- The walk (document 01, "Walk"; its marks: document 02, request c): what start, look, draw, setting a mark and going back to one reply,
--- and the record after them.
+-- The walk (document 01, "Walk"; document 02, request c: its marks, and g: its bonders): what start, look, draw, setting a mark and going
+-- back to one reply, and the record after them.
 use Prim.Native.Nat.{ℕ, _+_, _-_}
-use mathlib.Core.Bool.{Bool, false, _||_, cond}
+use mathlib.Core.Bool.{Bool, false, _||_, _&&_, cond}
 use mathlib.Core.List.{List, [], _∷_}
 use lib.Dec.{ltb, eqb}
 use lib.ListN.{getD, set, replicate}
@@ -17,9 +17,10 @@ use Rattle.walk.specs.declared.Change.the-variants.{Done, Refused}
 use Rattle.walk.specs.declared.Next.{Next}
 use Rattle.walk.specs.declared.Next.the-variants.{Codes, Spent, Refused as Unserved}
 
--- Starting puts the position at 0, with eight empty marks. A mark is stored as 0 if it is empty, else as its position plus 1.
+-- Starting puts the position at 0, with eight empty marks, and eight bonders that were given nothing yet. A mark is stored as 0 if it is
+-- empty, else as its position plus 1; a count is how many pairs its bonder was given.
 abbrev pub begun : ℕ → Walk
-begun n = record { degree = n; position = 0; marks = replicate 8 0 }
+begun n = record { degree = n; position = 0; marks = replicate 8 0; counts = replicate 8 0 }
 
 abbrev pub changeReply : Change → Reply
 changeReply Done = served []
@@ -38,11 +39,15 @@ abbrev pub anyAbove : ℕ → List ℕ → Bool
 anyAbove most [] = false
 anyAbove most (first ∷ rest) = ltb most first || anyAbove most rest
 
--- A degree outside 1 to 31, a position above the length, or a set mark beyond the length.
+-- The highest count: a bonder that has it is given no pair.
+abbrev pub fullCount : ℕ
+fullCount = 1000000000000000000
+
+-- A degree outside 1 to 31, a position above the length, a set mark beyond the length, or a count above the highest.
 unfoldable pub badRecord : Walk → Bool
 badRecord walk =
     outside 1 31 (walk .degree) || ltb (listLength (walk .degree)) (walk .position)
-    || anyAbove (listLength (walk .degree) + 1) (walk .marks)
+    || anyAbove (listLength (walk .degree) + 1) (walk .marks) || anyAbove fullCount (walk .counts)
 
 -- 3: bad walk record.
 abbrev pub recordCause : Walk → Cause
@@ -53,18 +58,44 @@ nextReply (Codes f g) = served (f ∷ g ∷ [])
 nextReply Spent = spent
 nextReply (Unserved refusal) = refused (numberOf refusal)
 
--- The pair at a position of the list of degree n; spent at the list's end.
+-- The pair at a position of the list of degree n; spent from the list's end on.
 abbrev pub entryReply : ℕ → ℕ → Reply
 entryReply n position = cond (ltb position (listLength n)) (pairReply (entry n position)) spent
 
--- A look and a draw both answer with the pair at the record's position.
+-- A look answers with the pair at the record's position, or spent.
 unfoldable pub lookReply : Walk → Reply
 lookReply walk = unless (recordCause walk ∷ []) (entryReply (walk .degree) (walk .position))
 
--- A draw that gives a pair moves on by one; otherwise the record stays.
-unfoldable pub afterDraw : Walk → Walk
-afterDraw walk =
-    after (lookReply walk) (record { degree = walk .degree; position = walk .position + 1; marks = walk .marks }) walk
+-- 20: bonder above 7.
+abbrev pub bonderCause : ℕ → Cause
+bonderCause bonder = ltb 7 bonder gives 20
+
+-- 21: the bonder's count is the highest, and a pair is there to give.
+abbrev pub fullCause : ℕ → ℕ → List ℕ → ℕ → Cause
+fullCause n position counts bonder = (ltb position (listLength n) && eqb (getD counts bonder 0) fullCount) gives 21
+
+-- A draw for a bonder answers as a look does, with two causes more.
+unfoldable pub drawReply : Walk → ℕ → Reply
+drawReply walk bonder =
+    unless (recordCause walk ∷ bonderCause bonder ∷ fullCause (walk .degree) (walk .position) (walk .counts) bonder ∷ [])
+    (entryReply (walk .degree) (walk .position))
+
+-- The counts with one more pair given to a bonder.
+abbrev pub oneMore : List ℕ → ℕ → List ℕ
+oneMore counts bonder = set counts bonder (getD counts bonder 0 + 1)
+
+-- The record moved on by one, with a pair more given to the bonder.
+abbrev pub movedOn : Walk → ℕ → Walk
+movedOn walk bonder = record {
+  degree = walk .degree;
+  position = walk .position + 1;
+  marks = walk .marks;
+  counts = oneMore (walk .counts) bonder;
+}
+
+-- So it is after a draw that gives a pair; otherwise it stays.
+unfoldable pub afterDraw : Walk → ℕ → Walk
+afterDraw walk bonder = after (drawReply walk bonder) (movedOn walk bonder) walk
 
 -- 18: mark above 7.
 abbrev pub markCause : ℕ → Cause
@@ -81,7 +112,12 @@ setMarkReply walk mark = unless (recordCause walk ∷ markCause mark ∷ []) (se
 unfoldable pub afterSetMark : Walk → ℕ → Walk
 afterSetMark walk mark =
     after (setMarkReply walk mark)
-    (record { degree = walk .degree; position = walk .position; marks = set (walk .marks) mark (walk .position + 1) }) walk
+    (record {
+      degree = walk .degree;
+      position = walk .position;
+      marks = set (walk .marks) mark (walk .position + 1);
+      counts = walk .counts;
+    }) walk
 
 unfoldable pub goBackReply : Walk → ℕ → Reply
 goBackReply walk mark = unless (recordCause walk ∷ markCause mark ∷ emptyCause (walk .marks) mark ∷ []) (served [])
@@ -90,4 +126,4 @@ goBackReply walk mark = unless (recordCause walk ∷ markCause mark ∷ emptyCau
 unfoldable pub afterGoBack : Walk → ℕ → Walk
 afterGoBack walk mark =
     after (goBackReply walk mark)
-    (record { degree = walk .degree; position = getD (walk .marks) mark 0 - 1; marks = walk .marks }) walk
+    (record { degree = walk .degree; position = getD (walk .marks) mark 0 - 1; marks = walk .marks; counts = walk .counts }) walk

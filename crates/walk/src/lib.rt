@@ -7,20 +7,25 @@ use reply::Refusal;
 ghost use mathlib.Core.Path.{_≡_};
 ghost use mathlib.Core.Bool.{cond};
 ghost use mathlib.Core.List.{[], _∷_};
-ghost use lib.Dec.{eqb};
-ghost use lib.ListN.{set};
+ghost use lib.Dec.{ltb, eqb};
+ghost use lib.ListN.{getD, set};
 ghost use Rattle.reply.specs.Numbers.{numberOf};
-ghost use Rattle.reply.specs.Reply.{served, refused, unless};
+ghost use Rattle.reply.specs.Reply.{served, refused, _gives_, unless};
 ghost use Rattle.poly.specs.Replies.{checkedReply};
-ghost use Rattle.walk.specs.Walks.{begun, changeReply, startReply, started, recordCause, nextReply, lookReply, afterDraw};
-ghost use Rattle.walk.specs.Walks.{anyAbove, setMarkReply, afterSetMark, goBackReply, afterGoBack};
+ghost use Rattle.walk.specs.Walks.{begun, changeReply, startReply, started, anyAbove, recordCause, nextReply, lookReply};
+ghost use Rattle.walk.specs.Walks.{drawReply, afterDraw, setMarkReply, afterSetMark, goBackReply, afterGoBack};
 
-// Document 01's walk record, with document 02's eight marks. A mark is 0 if it is empty, else the marked position plus 1.
+// The highest count.
+const FULL_COUNT: u64 = 1000000000000000000;
+
+// Document 01's walk record, with document 02's eight marks and eight counts. A mark is 0 if it is empty, else the marked position plus 1;
+// a count is how many pairs its bonder was given.
 #[repr(C)]
 pub struct Walk {
     pub degree: u32,
     pub position: u64,
     pub marks: [u64; 8],
+    pub counts: [u64; 8],
 }
 
 // What a call that gives no values answers.
@@ -72,6 +77,7 @@ fn begun(n: u32) -> Walk
         degree: n,
         position: 0,
         marks: [0; 8],
+        counts: [0; 8],
     }
 }
 
@@ -98,7 +104,21 @@ fn chosen(i: u32, place: u32, new: u64, old: u64) -> u64
     old
 }
 
-// The numbers with one of them replaced. Each is chosen: an array that is written behind a variable goes through memory twice.
+// The number at a place; 0 behind the eighth. All places are tried, so that the array stays in registers: read at an index that is not a
+// constant, it would have to be copied to memory first.
+fn picked(numbers: [u64; 8], place: u32) -> u64
+    ensures { λ r. ⌜ r ≡ getD numbers place 0 ⌝ }
+{
+    let mut number = 0;
+    let mut i: u32 = 0;
+    while i < 8 {
+        number = chosen(i, place, numbers[i as usize], number);
+        i += 1;
+    }
+    number
+}
+
+// The numbers with one of them replaced; all places are tried, for the same reason.
 fn replaced(numbers: [u64; 8], place: u32, new: u64) -> [u64; 8]
     ensures { λ r. ⌜ r ≡ set numbers place new ⌝ }
 {
@@ -124,7 +144,8 @@ impl Walk {
                     return Checked::Refused(Refusal::WalkRecord);
                 }
                 let marks = self.marks;
-                if any_above(marks, length + 1) {
+                let counts = self.counts;
+                if any_above(marks, length + 1) | any_above(counts, FULL_COUNT) {
                     return Checked::Refused(Refusal::WalkRecord);
                 }
                 Checked::Passed
@@ -148,43 +169,54 @@ impl Walk {
         }
     }
 
-    // The same, and the record moved on by one where it gives a pair.
-    pub fn drawn(self) -> Drawn
-        ensures { λ r. ⌜ (nextReply (r .answer) ≡ lookReply self) × (r .walk ≡ afterDraw self) ⌝ }
-    {
-        let answer = self.look();
-        match answer {
-            Next::Codes(f, g) => {
-                let mut walk = self;
-                walk.position = self.position + 1;
-                Drawn {
-                    answer: Next::Codes(f, g),
-                    walk,
-                }
-            }
-            Next::Spent => Drawn {
-                answer: Next::Spent,
-                walk: self,
-            },
-            Next::Refused(refusal) => Drawn {
-                answer: Next::Refused(refusal),
-                walk: self,
-            },
-        }
-    }
-
-    // The test of the record, and then that of a mark's number.
-    fn checked_mark(self, mark: u32) -> Checked
-        ensures { λ r. ⌜ checkedReply r ≡ setMarkReply self mark ⌝ }
+    // The test of the record, and then that of the number of a mark or a bonder.
+    fn checked_number(self, number: u32, refusal: Refusal) -> Checked
+        ensures { λ r. ⌜ checkedReply r ≡ unless (recordCause self ∷ ltb 7 number gives numberOf refusal ∷ []) (served []) ⌝ }
     {
         match self.checked() {
-            Checked::Refused(refusal) => Checked::Refused(refusal),
+            Checked::Refused(bad) => Checked::Refused(bad),
             Checked::Passed => {
-                if 7 < mark {
-                    return Checked::Refused(Refusal::MarkRange);
+                if 7 < number {
+                    return Checked::Refused(refusal);
                 }
                 Checked::Passed
             }
+        }
+    }
+
+    // An answer to a draw, and the record as it was.
+    fn unmoved(self, answer: Next) -> Drawn
+        ensures { λ r. ⌜ (r .answer ≡ answer) × (r .walk ≡ self) ⌝ }
+    {
+        Drawn { answer, walk: self }
+    }
+
+    // The pair at the record's position, for a bonder; where it gives one, the record is moved on by one, and the bonder's count is raised.
+    pub fn drawn(self, bonder: u32) -> Drawn
+        ensures { λ r. ⌜ (nextReply (r .answer) ≡ drawReply self bonder) × (r .walk ≡ afterDraw self bonder) ⌝ }
+    {
+        let n = self.degree;
+        let position = self.position;
+        match self.checked_number(bonder, Refusal::BonderRange) {
+            Checked::Refused(refusal) => self.unmoved(Next::Refused(refusal)),
+            Checked::Passed => match pairs::pair_at(n, position) {
+                Found::Refused(_) => self.unmoved(Next::Spent),
+                Found::Codes(f, g) => {
+                    let counts = self.counts;
+                    let count = counts[bonder as usize];
+                    if count == FULL_COUNT {
+                        return self.unmoved(Next::Refused(Refusal::BonderFull));
+                    }
+                    let after = replaced(counts, bonder, count + 1);
+                    let mut walk = self;
+                    walk.position = position + 1;
+                    walk.counts = after;
+                    Drawn {
+                        answer: Next::Codes(f, g),
+                        walk,
+                    }
+                }
+            },
         }
     }
 
@@ -198,11 +230,11 @@ impl Walk {
         }
     }
 
-    // The position stored in a mark.
+    // Stores the position in a mark.
     pub fn set_mark(self, mark: u32) -> Changed
         ensures { λ r. ⌜ (changeReply (r .answer) ≡ setMarkReply self mark) × (r .walk ≡ afterSetMark self mark) ⌝ }
     {
-        match self.checked_mark(mark) {
+        match self.checked_number(mark, Refusal::MarkRange) {
             Checked::Refused(refusal) => self.refused(refusal),
             Checked::Passed => {
                 let stored = self.position + 1;
@@ -218,14 +250,15 @@ impl Walk {
         }
     }
 
-    // The position of a mark taken up.
+    // Takes up the position of a mark.
     pub fn go_back(self, mark: u32) -> Changed
         ensures { λ r. ⌜ (changeReply (r .answer) ≡ goBackReply self mark) × (r .walk ≡ afterGoBack self mark) ⌝ }
     {
-        match self.checked_mark(mark) {
+        match self.checked_number(mark, Refusal::MarkRange) {
             Checked::Refused(refusal) => self.refused(refusal),
             Checked::Passed => {
-                let stored = self.marks[mark as usize];
+                let marks = self.marks;
+                let stored = picked(marks, mark);
                 if stored == 0 {
                     return self.refused(Refusal::MarkEmpty);
                 }
@@ -242,11 +275,12 @@ impl Walk {
 }
 
 // The draw over a record that the console lends.
-pub fn draw(walk: &mut Walk) -> Next
-    ensures { λ r. ⌜ (nextReply r ≡ lookReply (now (walk .entry))) × (now (walk .exit) ≡ afterDraw (now (walk .entry))) ⌝ }
+pub fn draw(walk: &mut Walk, bonder: u32) -> Next
+    ensures { λ r.
+        ⌜ (nextReply r ≡ drawReply (now (walk .entry)) bonder) × (now (walk .exit) ≡ afterDraw (now (walk .entry)) bonder) ⌝ }
 {
     let here = *walk;
-    let d = here.drawn();
+    let d = here.drawn(bonder);
     *walk = d.walk;
     d.answer
 }

@@ -45,12 +45,15 @@ val = LL.val T.the-type T′.the-laws
 abbrev pub outcome : Outcome → Val
 outcome = LL.val D.the-type D′.the-laws
 
--- its record's marks, as the record's type has them, and their machine values
+-- its record's marks and counts, as the record's type has them, and the machine values of eight numbers
 abbrev pub marksIn : Outcome → List ℕ
 marksIn r = T.the-type .to (r .walk) .1 .1 .0
 
-abbrev pub marks-vals : Outcome → List Val
-marks-vals r = array-vals (uint-vals w64) (marksIn r)
+abbrev pub countsIn : Outcome → List ℕ
+countsIn r = T.the-type .to (r .walk) .1 .1 .1 .0
+
+abbrev pub eight-vals : List ℕ → List Val
+eight-vals = array-vals (uint-vals w64)
 
 module _ (r : Outcome) (v : Val) (is : Is D.the-row r (v ∷ [])) where
   pub is-status : Is u32 (r .status) (vint w32 (r .status) ∷ [])
@@ -66,8 +69,11 @@ module _ (r : Outcome) (v : Val) (is : Is D.the-row r (v ∷ [])) where
   pub is-position : Is u64 (r .walk .position) (vint w64 (r .walk .position) ∷ [])
   is-position = LL.owed T.the-type T′.the-laws (r .walk) (val (r .walk) ∷ []) is-walk .1 .0
 
-  pub is-marks : Is (Array u64 8) (marksIn r) (marks-vals r)
+  pub is-marks : Is (Array u64 8) (marksIn r) (eight-vals (marksIn r))
   is-marks = LL.owed T.the-type T′.the-laws (r .walk) (val (r .walk) ∷ []) is-walk .1 .1 .0
+
+  pub is-counts : Is (Array u64 8) (countsIn r) (eight-vals (countsIn r))
+  is-counts = LL.owed T.the-type T′.the-laws (r .walk) (val (r .walk) ∷ []) is-walk .1 .1 .1 .0
 
 -- where a reference points
 abbrev pub to : {X : Type 0} → RefT X → Val

@@ -1,28 +1,21 @@
 -- `passed_on` meets its contract: in each arm the answer is known, and so is its reply.
-use mathlib.Core.Path.{sym, ap, _∙_}
+use mathlib.Core.Path.{refl, sym, ap}
 use borrow.Author.Needs.{needs}
 use Rattle.walk.specs.Walks.{nextReply}
-use Rattle.console.proofs.Told.{returned, holds}
+use Rattle.console.proofs.Told.{given}
 use Rattle.console.proofs.walks.passed_on.Statement.{statement}
 use Rattle.console.proofs.walks.passed_on.Tie as tie
 
 returns : tie.Need-returns
 returns c =
-    let a = c .before .before .before .before .args in
-    let e = sym (ap nextReply (c .before .before .answer .given .1)) in
-    (c .number .ensures ∙ returned e, (holds e 0 (a .f .now), holds e 1 (a .g .now)))
+    given (sym (ap nextReply (c .before .before .answer .given .1)))
+    (record { returned = c .number .ensures; first = refl; second = refl })
 
 returns-2 : tie.Need-returns-2
-returns-2 c =
-    let a = c .before .before .args in
-    let e = sym (ap nextReply (c .enum-told .given .1)) in
-    (returned e, (holds e 0 (a .f .now), holds e 1 (a .g .now)))
+returns-2 c = given (sym (ap nextReply (c .enum-told .given .1))) (record { returned = refl; first = refl; second = refl })
 
 returns-3 : tie.Need-returns-3
-returns-3 c =
-    let a = c .before .before .before .args in
-    let e = sym (ap nextReply (c .before .answer2 .given .1)) in
-    (returned e, (holds e 0 (a .f .now), holds e 1 (a .g .now)))
+returns-3 c = given (sym (ap nextReply (c .before .answer2 .given .1))) (record { returned = refl; first = refl; second = refl })
 
 pub passed-on-spec : {M : Type 1} → statement M
 passed-on-spec =

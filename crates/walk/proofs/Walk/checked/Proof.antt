@@ -1,5 +1,5 @@
 -- `checked` meets its contract: its tests are those of `badRecord`, one after the other.
-use mathlib.Core.Bool.{false}
+use mathlib.Core.Bool.{Bool, false, _||_}
 use mathlib.Core.Path.{_≡_, sym, ap, _∙_}
 use Prim.Native.Nat.{ℕ, _+_}
 use native.Mathlib.Omega.{arith}
@@ -7,8 +7,8 @@ use borrow.Author.Needs.{needs}
 use Rattle.poly.specs.Limits.{outside, listLength}
 use Rattle.poly.specs.Replies.{countReply}
 use Rattle.poly.proofs.Ranges.{within, length-served, length-refused, list-length-lt}
-use Rattle.walk.specs.Walks.{anyAbove, badRecord}
-use Rattle.walk.proofs.Looks.{bad-degree, bad-position, by-marks}
+use Rattle.walk.specs.Walks.{anyAbove, fullCount, badRecord}
+use Rattle.walk.proofs.Looks.{bad-degree, bad-position, by-numbers}
 use Rattle.walk.proofs.Walk.checked.Statement.{statement}
 use Rattle.walk.proofs.Walk.checked.Tie as tie
 
@@ -27,22 +27,25 @@ returns c =
 
 add-any-above : tie.Need-add-any-above
 add-any-above c =
-    let (degree, length) = known (c .before .before .before .before) in
+    let (degree, length) = known (c .before .before .before .before .before) in
     let (low, high) = within 1 31 degree in
     record { fits = omega (arith, list-length-lt _ high) }
 
--- the test of the marks is all that is left
-by-test : (c : tie.After-any-above)
-    → let walk = c .before .before .before .before .before .before .before .before .args .self in
-    badRecord walk ≡ c .any-above .result
-by-test c =
-    let walk = c .before .before .before .before .before .before .before .before .args .self in
-    let (degree, length) = known (c .before .before .before .before .before) in
-    let l = c .before .before .if1 .left in
-    by-marks walk degree (omega arith) ∙ ap (λ (v : ℕ). anyAbove (v + 1) (walk .marks)) (sym length) ∙ sym (c .any-above .ensures)
+-- the tests of the marks and of the counts are all that is left
+by-tests : (c : tie.After-any-above2)
+    → let walk = c .before .before .before .before .before .before .before .before .before .before .args .self in
+    badRecord walk ≡ (c .before .any-above .result || c .any-above2 .result)
+by-tests c =
+    let walk = c .before .before .before .before .before .before .before .before .before .before .args .self in
+    let (degree, length) = known (c .before .before .before .before .before .before .before) in
+    let l = c .before .before .before .before .if1 .left in
+    by-numbers walk degree (omega arith)
+    ∙ ap (λ (v : ℕ). anyAbove (v + 1) (walk .marks) || anyAbove fullCount (walk .counts)) (sym length)
+    ∙ ap (λ (b : Bool). b || anyAbove fullCount (walk .counts)) (sym (c .before .any-above .ensures))
+    ∙ ap (λ (b : Bool). c .before .any-above .result || b) (sym (c .any-above2 .ensures))
 
 returns-2 : tie.Need-returns-2
-returns-2 c = rw (by-test (c .before) ∙ c .if2 .taken)
+returns-2 c = rw (by-tests (c .before) ∙ c .if2 .taken)
 
 returns-3 : tie.Need-returns-3
 returns-3 c =
@@ -51,7 +54,7 @@ returns-3 c =
     (sym (ap countReply (c .enum-told .given .1)) ∙ c .before .before .list-length .ensures)))
 
 returns-4 : tie.Need-returns-4
-returns-4 c = rw (by-test (c .before) ∙ c .if2 .left)
+returns-4 c = rw (by-tests (c .before) ∙ c .if2 .left)
 
 pub checked-spec : {M : Type 1} → statement M
 checked-spec =
@@ -62,6 +65,7 @@ checked-spec =
     (λ c. search needs)
     returns
     add-any-above
+    (λ c κs. search needs)
     (λ c κs. search needs)
     returns-2
     returns-3

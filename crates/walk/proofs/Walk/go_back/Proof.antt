@@ -2,51 +2,40 @@
 use mathlib.Core.List.{[]}
 use mathlib.Core.Path.{_≡_, sym, ap, _∙_}
 use borrow.Author.Needs.{needs}
-use native.Mathlib.Omega.{arith}
 use Rattle.reply.specs.Reply.{served}
 use Rattle.poly.specs.Replies.{checkedReply}
-use Rattle.walk.specs.Walks.{setMarkReply}
-use Rattle.walk.proofs.Marks.{set-known, back-unset, back-empty, back-served, back-refused, back-done}
+use Rattle.walk.proofs.Tests.{tested}
+use Rattle.walk.proofs.Marks.{back-untested, back-empty, back-served, back-refused, back-done}
 use Rattle.walk.proofs.Walk.go_back.Statement.{statement}
 use Rattle.walk.proofs.Walk.go_back.Tie as tie
 
 -- the tests pass
 tests : (c : tie.After-enum-told)
-    → served [] ≡ setMarkReply (c .before .before .before .args .t1) (c .before .before .before .args .mark)
-tests c = sym (ap checkedReply (c .enum-told .given .1)) ∙ c .before .before .checked-mark .ensures
-
-mul-stored : tie.Need-mul-stored
-mul-stored c =
-    let a = c .before .before .before .args in
-    let le = set-known (a .t1) (a .mark) (tests c) .1 in
-    record { fits = omega arith }
-
-element-copy-out-stored : tie.Need-element-copy-out-stored
-element-copy-out-stored c =
-    let a = c .before .before .before .args in
-    let le = set-known (a .t1) (a .mark) (tests c) .1 in
-    omega arith
+    → served [] ≡ tested (c .before .before .before .args .self) (c .before .before .before .args .mark) 18
+tests c = sym (ap checkedReply (c .enum-told .given .1)) ∙ c .before .before .checked-number .ensures
 
 returns : tie.Need-returns
 returns c =
-    let a = c .before .before .before .before .before .before .args in
+    let a = c .before .before .before .before .before .before .before .args in
     let (reply, walk) = c .refused2 .ensures in
-    let e = back-empty (a .t1) (a .mark) (tests (c .before .before .before)) (c .before .if1 .taken) in
-    (reply ∙ e, walk ∙ back-refused (a .t1) (a .mark) e)
+    let stored = sym (c .before .before .picked .ensures) in
+    let e = back-empty (a .self) (a .mark) (tests (c .before .before .before .before)) (stored ∙ c .before .if1 .taken) in
+    (reply ∙ e, walk ∙ back-refused (a .self) (a .mark) e)
 
 returns-2 : tie.Need-returns-2
 returns-2 c =
     let a = c .before .before .before .before .before .args in
     let (reply, walk) = c .refused .ensures in
     let told = sym (ap checkedReply (c .before .before .refusal .given .1)) in
-    let e = back-unset (a .t1) (a .mark) (told ∙ c .before .before .before .before .checked-mark .ensures) in
-    (reply ∙ e, walk ∙ back-refused (a .t1) (a .mark) e)
+    let e = back-untested (a .self) (a .mark) (told ∙ c .before .before .before .before .checked-number .ensures) in
+    (reply ∙ e, walk ∙ back-refused (a .self) (a .mark) e)
 
 returns-3 : tie.Need-returns-3
 returns-3 c =
-    let a = c .before .before .before .before .before .args in
-    let e = back-served (a .t1) (a .mark) (tests (c .before .before)) (c .if1 .left) in
-    (e, back-done (a .t1) (a .mark) e)
+    let a = c .before .before .before .before .before .before .args in
+    let stored = c .before .picked .ensures in
+    let e = back-served (a .self) (a .mark) (tests (c .before .before .before)) (λ z. c .if1 .left (stored ∙ z)) in
+    (e, rw stored (back-done (a .self) (a .mark) e))
 
 pub go-back-spec : {M : Type 1} → statement M
 go-back-spec =
@@ -56,8 +45,7 @@ go-back-spec =
     (λ c. search needs)
     (λ c κs. search needs)
     (λ c. search needs)
-    mul-stored
-    element-copy-out-stored
+    (λ c κs. search needs)
     (λ c κs. search needs)
     returns
     (λ c. search needs)

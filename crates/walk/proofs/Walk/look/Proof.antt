@@ -8,7 +8,7 @@ use Rattle.reply.proofs.Order.{sole-served, sole-refused}
 use Rattle.poly.specs.Replies.{checkedReply}
 use Rattle.pairs.specs.Replies.{foundReply}
 use Rattle.walk.specs.Walks.{badRecord}
-use Rattle.walk.proofs.Looks.{bad-look, look-pair, look-end}
+use Rattle.walk.proofs.Looks.{bad-look, good-look, entry-pair, entry-end}
 use Rattle.walk.proofs.Walk.look.Statement.{statement}
 use Rattle.walk.proofs.Walk.look.Tie as tie
 
@@ -27,13 +27,17 @@ returns c =
 
 returns-2 : tie.Need-returns-2
 returns-2 c =
-    look-pair (c .before .before .before .before .before .before .before .args .self) (sound (c .before .before .before .before))
-    (sym (ap foundReply (c .before .f .given .1)) ∙ c .before .before .before .pair-at .ensures)
+    let walk = c .before .before .before .before .before .before .before .args .self in
+    let good = sound (c .before .before .before .before) in
+    entry-pair walk good (sym (ap foundReply (c .before .f .given .1)) ∙ c .before .before .before .pair-at .ensures) .1
+    ∙ sym (good-look walk good)
 
 returns-3 : tie.Need-returns-3
 returns-3 c =
-    look-end (c .before .before .before .before .before .before .args .self) (sound (c .before .before .before))
-    (sym (ap foundReply (c .enum-told2 .given .1)) ∙ c .before .before .pair-at .ensures)
+    let walk = c .before .before .before .before .before .before .args .self in
+    let good = sound (c .before .before .before) in
+    entry-end walk good (sym (ap foundReply (c .enum-told2 .given .1)) ∙ c .before .before .pair-at .ensures) .1
+    ∙ sym (good-look walk good)
 
 pub look-spec : {M : Type 1} → statement M
 look-spec =

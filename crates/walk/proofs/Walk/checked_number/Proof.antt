@@ -1,4 +1,4 @@
--- `checked_mark` meets its contract: its two tests are the causes in their order.
+-- `checked_number` meets its contract: its two tests are the causes in their order.
 use mathlib.Core.Bool.{false}
 use mathlib.Core.List.{[]}
 use mathlib.Core.Path.{_≡_, sym, ap, _∙_}
@@ -7,9 +7,9 @@ use Rattle.reply.specs.Reply.{served}
 use Rattle.reply.proofs.Order.{sole-served, sole-refused}
 use Rattle.poly.specs.Replies.{checkedReply}
 use Rattle.walk.specs.Walks.{badRecord}
-use Rattle.walk.proofs.Marks.{set-bad, set-range, set-served}
-use Rattle.walk.proofs.Walk.checked_mark.Statement.{statement}
-use Rattle.walk.proofs.Walk.checked_mark.Tie as tie
+use Rattle.walk.proofs.Tests.{test-bad, test-range, test-passes}
+use Rattle.walk.proofs.Walk.checked_number.Statement.{statement}
+use Rattle.walk.proofs.Walk.checked_number.Tie as tie
 
 -- the record is good
 good : (c : tie.After-enum-told) → badRecord (c .before .before .before .args .self) ≡ false
@@ -20,22 +20,22 @@ good c =
 returns : tie.Need-returns
 returns c =
     let a = c .before .before .before .before .args in
-    set-range (a .self) (a .mark) (good (c .before)) (c .if1 .taken)
+    test-range (a .self) (a .number) _ (good (c .before)) (c .if1 .taken)
 
 returns-2 : tie.Need-returns-2
 returns-2 c =
     let a = c .before .before .before .before .args in
-    let told = sym (ap checkedReply (c .before .refusal .given .1)) in
+    let told = sym (ap checkedReply (c .before .bad .given .1)) in
     let (bad, three) = sole-refused (badRecord (a .self)) 3 [] (told ∙ c .before .before .before .checked .ensures) in
-    rw three (set-bad (a .self) (a .mark) bad)
+    rw three (test-bad (a .self) (a .number) _ bad)
 
 returns-3 : tie.Need-returns-3
 returns-3 c =
     let a = c .before .before .before .before .args in
-    set-served (a .self) (a .mark) (good (c .before)) (c .if1 .left)
+    test-passes (a .self) (a .number) _ (good (c .before)) (c .if1 .left)
 
-pub checked-mark-spec : {M : Type 1} → statement M
-checked-mark-spec =
+pub checked-number-spec : {M : Type 1} → statement M
+checked-number-spec =
     tie.close
     (tie.spec
     (λ c κs. search needs)
