@@ -1,8 +1,9 @@
 /*
- * Times the library's calls beside plain C of the same jobs, and prints the tables. All inputs are prepared before the clock starts; inputs
- * and results stay in the same memory, so that caches are warm. In each round the library and the plain C work on the same inputs, one
- * after the other, so that load on the machine hits both; a line shows the medians of the rounds. Before a job is timed, both answer each
- * of its inputs and the answers are compared, every byte of them. The answers are global memory, so that no call can be left out.
+ * Times the library's calls beside plain C of the same jobs, and prints the tables. All inputs are prepared before the clock starts, but for
+ * the few walks that a job lends to its many calls; inputs and results stay in the same memory, so that caches are warm. In each round the
+ * library and the plain C work on the same inputs, one after the other, so that load on the machine hits both; a line shows the medians of
+ * the rounds. Before a job is timed, both answer each of its inputs and the answers are compared, every byte of them. The answers are
+ * global memory, so that no call can be left out.
  */
 #define _POSIX_C_SOURCE 199309L
 #include "lists.h"
@@ -36,7 +37,7 @@ typedef struct Trial {
 
 /* What a call answers, and the memory that it is lent, which both sides have at the same place of a cache line. */
 typedef struct Answer {
-    uint32_t status, degree, codes[2], divisor, quotients[DW_CHAIN_ROOM];
+    uint32_t status, degree, codes[2], next[2], divisor, quotients[DW_CHAIN_ROOM];
     uint64_t position, positions, marks[DW_MARKS], counts[DW_BONDERS];
     size_t count, offset;
     _Alignas(64) uint16_t powers[DW_LEVELS_ROOM], forces[DW_LEVELS_ROOM];
@@ -146,6 +147,7 @@ static uint32_t (*const unordered_pair_at[SIDES])(uint32_t, uint64_t, uint32_t *
 static uint32_t (*const position_of[SIDES])(uint32_t, uint32_t, uint32_t, uint64_t *) = {dw_position_of, plain_position_of};
 static uint32_t (*const chain[SIDES])(uint32_t, uint32_t, uint32_t, uint32_t *, size_t, size_t *, uint32_t *) = {dw_chain, plain_chain};
 static uint32_t (*const longest_chains[SIDES])(uint32_t, uint64_t *, uint64_t *) = {dw_longest_chains, plain_longest_chains};
+static uint32_t (*const start[SIDES])(uint32_t, dw_walk *) = {dw_start, plain_start};
 static uint32_t (*const look[SIDES])(const dw_walk *, uint32_t *, uint32_t *) = {dw_look, plain_look};
 static uint32_t (*const draw[SIDES])(dw_walk *, uint32_t, uint32_t *, uint32_t *) = {dw_draw, plain_draw};
 static uint32_t (*const set_mark[SIDES])(dw_walk *, uint32_t) = {dw_set_mark, plain_set_mark};
@@ -201,50 +203,88 @@ static void run_longest_chains(int side, size_t from, size_t to)
         a->status = longest_chains[side](degree, &a->positions, &a->position);
 }
 
-/* A walk at the position of an input, with half of its marks set and nothing counted. */
-static dw_walk some_walk(size_t i)
+/* A walk at a position, with half of its marks set, nothing counted, and the next pair right. */
+static dw_walk some_walk(uint64_t position)
 {
-    dw_walk walk = {degree, inputs[i].position, {0}, {0}};
+    dw_walk walk = {degree, position, {0}, {0}, 0, 0};
     for (size_t mark = 0; mark < DW_MARKS; mark += 2)
         walk.marks[mark] = inputs[mark].position + 1;
+    plain_pair(degree, position, &walk.f, &walk.g);
     return walk;
 }
 
-/* One record is lent to each look, put at the input's position. */
+/* Sixteen walks, from that of an input on, which calls are lent in turn, so that none is read just after it was written. The mark that a
+ * call takes is at the position of the next input. */
+static dw_walk walks[WALKS];
+
+static void some_walks(size_t from)
+{
+    for (size_t i = from; i < from + WALKS; i++) {
+        walks[i % WALKS] = some_walk(inputs[i % INPUTS].position);
+        walks[i % WALKS].marks[2 * i % DW_MARKS] = inputs[(i + 1) % INPUTS].position + 1;
+    }
+}
+
+static void keep_walk(Answer *a, const dw_walk *walk)
+{
+    a->degree = walk->degree;
+    a->position = walk->position;
+    memcpy(a->marks, walk->marks, sizeof walk->marks);
+    memcpy(a->counts, walk->counts, sizeof walk->counts);
+    a->next[0] = walk->f;
+    a->next[1] = walk->g;
+}
+
+static void run_start(int side, size_t from, size_t to)
+{
+    Answer *a = &answers[side];
+    memset(walks, 90, sizeof walks);
+    for (size_t i = from; i < to; i++)
+        a->status = start[side](degree, &walks[i % WALKS]);
+    keep_walk(a, &walks[from % WALKS]);
+}
+
 static void run_look(int side, size_t from, size_t to)
 {
     Answer *a = &answers[side];
-    dw_walk walk = some_walk(from);
-    for (size_t i = from; i < to; i++) {
-        walk.position = inputs[i].position;
-        a->status = look[side](&walk, &a->codes[0], &a->codes[1]);
-    }
+    some_walks(from);
+    for (size_t i = from; i < to; i++)
+        a->status = look[side](&walks[i % WALKS], &a->codes[0], &a->codes[1]);
+}
+
+/* The library twice: a look, and in the plain C's place the pair call at the walk's position. */
+static void run_kept(int side, size_t from, size_t to)
+{
+    Answer *a = &answers[side];
+    some_walks(from);
+    for (size_t i = from; i < to; i++)
+        a->status = side == LIBRARY ? dw_look(&walks[i % WALKS], &a->codes[0], &a->codes[1])
+                                    : dw_pair_at(degree, walks[i % WALKS].position, &a->codes[0], &a->codes[1]);
 }
 
 /* One record is lent to each draw, the bonders in turn; behind the list's end it starts anew. */
 static void run_draw(int side, size_t from, size_t to)
 {
     Answer *a = &answers[side];
-    dw_walk walk = some_walk(from);
+    dw_walk walk = some_walk(inputs[from].position), first = some_walk(0);
     for (size_t i = from; i < to; i++)
-        if ((a->status = draw[side](&walk, (uint32_t)i % DW_BONDERS, &a->codes[0], &a->codes[1])) == DW_SPENT)
+        if ((a->status = draw[side](&walk, (uint32_t)i % DW_BONDERS, &a->codes[0], &a->codes[1])) == DW_SPENT) {
             walk.position = 0;
-    a->position = walk.position;
-    memcpy(a->marks, walk.marks, sizeof walk.marks);
-    memcpy(a->counts, walk.counts, sizeof walk.counts);
+            walk.f = first.f;
+            walk.g = first.g;
+        }
+    keep_walk(a, &walk);
 }
 
-/* Sixteen records are lent to the settings and the returns in turn, so that none is read just after it was written. */
+/* Before each call a mark of the record that comes eight calls later is put at a random position, so that returns lead anywhere. */
 static void run_marks(uint32_t (*call)(dw_walk *, uint32_t), Answer *a, size_t from, size_t to)
 {
-    static dw_walk walks[WALKS];
-    for (size_t i = 0; i < WALKS; i++)
-        walks[i] = some_walk(from + i < INPUTS ? from + i : i);
-    for (size_t i = from; i < to; i++)
+    some_walks(from);
+    for (size_t i = from; i < to; i++) {
+        walks[(i + WALKS / 2) % WALKS].marks[2 * i % DW_MARKS] = inputs[i].position + 1;
         a->status = call(&walks[i % WALKS], (uint32_t)(2 * i) % DW_MARKS);
-    a->position = walks[from % WALKS].position;
-    memcpy(a->marks, walks[from % WALKS].marks, sizeof a->marks);
-    memcpy(a->counts, walks[from % WALKS].counts, sizeof a->counts);
+    }
+    keep_walk(a, &walks[from % WALKS]);
 }
 
 static void run_set_mark(int side, size_t from, size_t to)
@@ -307,6 +347,7 @@ static const Job jobs[] = {
     {"position of", prepare_random, run_position_of, INPUTS, 0, GOAL},
     {"chain", prepare_codes, run_chain, INPUTS, 0, 1.1},
     {"longest chains", prepare_rising, run_longest_chains, INPUTS, 0, GOAL},
+    {"start", prepare_rising, run_start, INPUTS, 0, GOAL},
     {"look", prepare_rising, run_look, INPUTS, 0, GOAL},
     {"draw", prepare_rising, run_draw, INPUTS, 0, GOAL},
     {"set mark", prepare_random, run_set_mark, INPUTS, 0, GOAL},
@@ -565,6 +606,25 @@ static double show_second_list(void)
     return most;
 }
 
+/* What a look costs at the worst of the four degrees, and the part that it takes of working the pair out at the highest. */
+typedef struct Kept {
+    double most, part;
+} Kept;
+
+static Kept show_kept(void)
+{
+    static const Job job = {"next pair kept", prepare_rising, run_kept, INPUTS, 0, 0};
+    Kept kept = {0, 0};
+    printf("\n| degree | look ns | pair at its position ns | times as fast |\n|---|---|---|---|\n");
+    for (int i = 0; i < 4; i++) {
+        Line line = measure(&job, degrees[i]);
+        printf("| %" PRIu32 " | %.1f | %.1f | %.1f |\n", degrees[i], line.library, line.plain, 1 / line.ratio);
+        kept.most = line.library > kept.most ? line.library : kept.most;
+        kept.part = line.ratio;
+    }
+    return kept;
+}
+
 static void show_lists(void)
 {
     printf("\n| whole list of degree %d, into warm memory | ns a listed pair | to the C filter |\n|---|---|---|\n", LIST_DEGREE);
@@ -573,13 +633,16 @@ static void show_lists(void)
     printf("\nMedians of %d rounds.\n", LIST_ROUNDS);
 }
 
-static void show_goals(const Summary *summaries, double beyond)
+static void show_goals(const Summary *summaries, double beyond, Kept kept)
 {
     printf("\nThe worst ratio of each job, and its goal:\n\n");
     for (int job = 0; job < JOBS; job++)
         show_goal(jobs[job].name, summaries[job].worst, jobs[job].goal);
     printf("\nAn entry of the second list, in nanoseconds beyond the pair call:\n\n");
     show_goal("worst degree", beyond, 3);
+    printf("\nA look, in nanoseconds; and eight looks to the pair call, at degree 31:\n\n");
+    show_goal("worst degree", kept.most, 12);
+    show_goal("ratio", 8 * kept.part, 1);
     printf("\nGoal: a pair at a position of degree %d costs no more than one pair that the C filter lists. The ratio:\n\n", LIST_DEGREE);
     show_goal("random order", cost_of(by_library_shuffled) / cost_of(filter_c), 1);
     show_goal("rising", cost_of(by_library) / cost_of(filter_c), 1);
@@ -595,10 +658,11 @@ int main(void)
     plain_tables();
     show_jobs(summaries);
     double beyond = show_second_list();
+    Kept kept = show_kept();
     shuffle();
     compare_lists();
     time_lists();
     show_lists();
-    show_goals(summaries, beyond);
+    show_goals(summaries, beyond, kept);
     return 0;
 }

@@ -225,6 +225,38 @@ static int plain_bad_walk(const dw_walk *walk)
     return bad;
 }
 
+/* Draws meet positions that rise, so their next pair is worked with branches. */
+static inline void plain_keep_rising(dw_walk *walk)
+{
+    walk->f = walk->g = 0;
+    if (walk->position < plain_first[walk->degree][walk->degree + 1])
+        plain_next_pair(walk->degree, walk->position, &walk->f, &walk->g);
+}
+
+/* A return leads anywhere, so its next pair is worked without. */
+static inline void plain_keep_any(dw_walk *walk)
+{
+    walk->f = walk->g = 0;
+    if (walk->position < plain_first[walk->degree][walk->degree + 1])
+        plain_pair(walk->degree, walk->position, &walk->f, &walk->g);
+}
+
+/* The first pair of a list by its closed form. */
+PLAIN_CALL plain_start(uint32_t n, dw_walk *walk)
+{
+    if (n < 1 || n > 31)
+        return DW_REFUSED_DEGREE_RANGE;
+    walk->degree = n;
+    walk->position = 0;
+    for (int i = 0; i < DW_MARKS; i++)
+        walk->marks[i] = 0;
+    for (int i = 0; i < DW_BONDERS; i++)
+        walk->counts[i] = 0;
+    walk->f = n > 1 ? (1u << n) + 3 : 0;
+    walk->g = n > 1 ? (1u << n) + 1 : 0;
+    return DW_SERVED;
+}
+
 PLAIN_CALL plain_look(const dw_walk *walk, uint32_t *f, uint32_t *g)
 {
     uint32_t n = walk->degree;
@@ -232,7 +264,8 @@ PLAIN_CALL plain_look(const dw_walk *walk, uint32_t *f, uint32_t *g)
         return DW_REFUSED_WALK_RECORD;
     if (walk->position == plain_first[n][n + 1])
         return DW_SPENT;
-    plain_next_pair(n, walk->position, f, g);
+    *f = walk->f;
+    *g = walk->g;
     return DW_SERVED;
 }
 
@@ -247,9 +280,11 @@ PLAIN_CALL plain_draw(dw_walk *walk, uint32_t bonder, uint32_t *f, uint32_t *g)
         return DW_SPENT;
     if (walk->counts[bonder] == DW_FULL_COUNT)
         return DW_REFUSED_BONDER_FULL;
-    plain_next_pair(n, walk->position, f, g);
+    *f = walk->f;
+    *g = walk->g;
     walk->position++;
     walk->counts[bonder]++;
+    plain_keep_rising(walk);
     return DW_SERVED;
 }
 
@@ -275,6 +310,7 @@ PLAIN_CALL plain_go_back(dw_walk *walk, uint32_t mark)
     if (walk->marks[mark] == 0)
         return DW_REFUSED_MARK_EMPTY;
     walk->position = walk->marks[mark] - 1;
+    plain_keep_any(walk);
     return DW_SERVED;
 }
 

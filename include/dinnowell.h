@@ -38,7 +38,7 @@
 #include <stdint.h>
 
 /* The version of this interface. MAJOR grows where a caller may have to change, MINOR where something is added. */
-#define DW_VERSION_MAJOR 4
+#define DW_VERSION_MAJOR 5
 #define DW_VERSION_MINOR 0
 #define DW_VERSION (1000 * DW_VERSION_MAJOR + DW_VERSION_MINOR)
 
@@ -106,27 +106,43 @@ enum {
 /*
  * A walk through the list of a degree: dw_start fills it in, dw_draw moves it on and counts the pair for a bonder, dw_set_mark marks where
  * it is and dw_go_back takes it to a mark. A mark is 0 if it is empty, else the marked position plus 1; a count is how many pairs dw_draw
- * gave to that bonder. A walk may be copied and kept, and may be written by hand: its degree 1 to 31, its position up to the length of its
- * list, where the walk is spent, each mark up to the length plus 1, and each count up to DW_FULL_COUNT. All eight marks and all eight
- * counts are looked at, so one that is not wanted must be 0; it is safest to call dw_start and then to write the position. The padding
- * between the fields means nothing, so compare the fields and not the bytes.
- * Before version 4.0 a walk had 80 bytes and no counts, before 3.0 it had 16 bytes and no marks either. Code that was compiled for those
- * must be compiled anew: dw_start writes 144 bytes, and dw_draw takes the bonder.
+ * gave to that bonder. f and g are the next pair: where they are served, dw_start, dw_draw and dw_go_back set it to the pair at the new
+ * position, or to 0 and 0 at the list's end, where the walk is spent. They do so whatever stood there, dw_go_back also where it leads to
+ * the same position. No other call changes f and g.
+ * A walk may be copied and kept, and may be written by hand: its degree 1 to 31, its position up to the length of its list, where the walk
+ * is spent, each mark up to the length plus 1, and each count up to DW_FULL_COUNT. All eight marks and all eight counts are looked at, so
+ * one that is not wanted must be 0.
+ * f and g are not checked. Below the list's end dw_look and dw_draw give them as they stand, 0 and 0 too, and return DW_SERVED; whether a
+ * walk is spent, DW_SPENT tells and not f. So who writes a degree or a position by hand must set the pair right too, or the pair at that
+ * position is passed over and another given in its place. Where it is served, this takes a walk to position p, whatever pair it holds, and
+ * it leaves the marks and counts as they were:
+ *     uint64_t mark = walk.marks[0];
+ *     walk.marks[0] = p + 1;
+ *     uint32_t status = dw_go_back(&walk, 0);
+ *     walk.marks[0] = mark;
+ * The padding between the fields means nothing, and calls may change it, so compare the fields and not the bytes.
+ * Before version 5.0 a walk had 144 bytes and no next pair, before 4.0 it had 80 bytes and no counts either, before 3.0 it had 16 bytes and
+ * no marks either. Code that was compiled for those must be compiled anew: dw_start writes 152 bytes, and dw_draw takes the bonder. Code
+ * that writes degree or position must be changed as well, though it compiles: before 5.0 the pair followed the position. A walk that was
+ * kept from before is taken over by copying its fields, with f and g 0, and then, as above, going to its own position.
  */
 typedef struct dw_walk {
     uint32_t degree;
     uint64_t position;
     uint64_t marks[DW_MARKS];
     uint64_t counts[DW_BONDERS];
+    uint32_t f, g;
 } dw_walk;
 
 /* The library was compiled for this layout. */
 #ifdef __cplusplus
-static_assert(sizeof(dw_walk) == 144 && offsetof(dw_walk, position) == 8 && offsetof(dw_walk, marks) == 16, "layout");
-static_assert(offsetof(dw_walk, counts) == 80 && sizeof(size_t) == 8, "layout");
+static_assert(sizeof(dw_walk) == 152 && offsetof(dw_walk, position) == 8 && offsetof(dw_walk, marks) == 16, "layout");
+static_assert(offsetof(dw_walk, counts) == 80 && offsetof(dw_walk, f) == 144 && offsetof(dw_walk, g) == 148, "layout");
+static_assert(sizeof(size_t) == 8, "layout");
 #else
-_Static_assert(sizeof(dw_walk) == 144 && offsetof(dw_walk, position) == 8 && offsetof(dw_walk, marks) == 16, "layout");
-_Static_assert(offsetof(dw_walk, counts) == 80 && sizeof(size_t) == 8, "layout");
+_Static_assert(sizeof(dw_walk) == 152 && offsetof(dw_walk, position) == 8 && offsetof(dw_walk, marks) == 16, "layout");
+_Static_assert(offsetof(dw_walk, counts) == 80 && offsetof(dw_walk, f) == 144 && offsetof(dw_walk, g) == 148, "layout");
+_Static_assert(sizeof(size_t) == 8, "layout");
 #endif
 
 /*
@@ -240,24 +256,27 @@ uint32_t dw_write(uint32_t n, uint32_t f, uint32_t g, const uint16_t *powers, si
 
 /*
  * Starts a walk through the list of degree n. What stands in *walk before is not looked at.
- * Served: *walk has degree n, position 0, all marks empty and all counts 0.
+ * Served: *walk has degree n, position 0, all marks empty, all counts 0, and as its next pair the first of the list; at degree 1, whose
+ * list is empty, 0 and 0.
  * Refused: DEGREE_RANGE.
  */
 DW_MUST_CHECK
 uint32_t dw_start(uint32_t n, dw_walk *walk);
 
 /*
- * The pair at the walk's position.
- * Served: *f and *g are its codes.
+ * The next pair of the walk: the one at its position, if dw_start began the walk and nothing but the calls below has written its degree,
+ * position or pair. f and g must not point into *walk.
+ * Served: *f and *g are walk->f and walk->g.
  * Refused: WALK_RECORD.
- * DW_SPENT: the walk is at the end of its list.
+ * DW_SPENT: the walk is at the end of its list, whatever its next pair is.
  */
 DW_MUST_CHECK
 uint32_t dw_look(const dw_walk *walk, uint32_t *f, uint32_t *g);
 
 /*
- * The pair at the walk's position, given to a bonder, and the walk moves on.
- * Served: *f and *g are its codes; walk->position and walk->counts[bonder] are one more than they were, the rest of *walk the same.
+ * The next pair of the walk, as dw_look gives it, given to a bonder, and the walk moves on. f and g must not point into *walk.
+ * Served: *f and *g are what walk->f and walk->g were; walk->position and walk->counts[bonder] are one more than they were, walk->f and
+ * walk->g are the pair at the new position, or 0 and 0 at the list's end, and the rest of *walk is the same.
  * Refused: WALK_RECORD; BONDER_RANGE if bonder is not below DW_BONDERS; BONDER_FULL, on a walk that is not spent.
  * DW_SPENT: the walk is at the end of its list, and stays there; nothing is counted.
  */
@@ -275,7 +294,8 @@ uint32_t dw_set_mark(dw_walk *walk, uint32_t mark);
 /*
  * Takes the walk to a marked position. The mark stays set, and no count changes. From there dw_draw goes on through the list, so pairs that
  * were drawn before may come again; where the mark lies ahead of the walk, the pairs between are passed over.
- * Served: walk->position is walk->marks[mark] - 1, the rest of *walk the same.
+ * Served: walk->position is walk->marks[mark] - 1, walk->f and walk->g are the pair there, or 0 and 0 at the list's end, and the rest of
+ * *walk is the same.
  * Refused: WALK_RECORD; MARK_RANGE if mark is not below DW_MARKS; MARK_EMPTY.
  */
 DW_MUST_CHECK

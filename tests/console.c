@@ -23,7 +23,7 @@ CHECK(DW_REFUSED_LEVEL_RANGE == 13 && DW_REFUSED_LEVEL_REPEATED == 14 && DW_REFU
 CHECK(DW_REFUSED_TRAILING_BYTES == 17 && DW_REFUSED_MARK_RANGE == 18 && DW_REFUSED_MARK_EMPTY == 19 && DW_REFUSED_BONDER_RANGE == 20);
 CHECK(DW_REFUSED_BONDER_FULL == 21 && DW_MARKS == 8 && DW_BONDERS == 8 && DW_FULL_COUNT == UINT64_C(1000000000000000000));
 CHECK(DW_CHAIN_ROOM == 32 && DW_LEVELS_ROOM == 64 && DW_SHEET_ROOM == 8192 && DW_FILE_ROOM == 429 && DW_NAME_ROOM == 40);
-CHECK(DW_STACK_ROOM == 8192 && DW_VERSION_MAJOR == 4 && DW_VERSION_MINOR == 0 && DW_VERSION == 4000);
+CHECK(DW_STACK_ROOM == 8192 && DW_VERSION_MAJOR == 5 && DW_VERSION_MINOR == 0 && DW_VERSION == 5000);
 
 enum { SEED = 20261115, GUARD = 64, LARGEST = 1 << 14, SLOTS = 16 };
 
@@ -282,8 +282,9 @@ static void came_walk(int slot, uint32_t refused, dw_walk want, const char *what
 {
     dw_walk walk;
     memcpy(&walk, memory[slot].bytes + GUARD, sizeof walk);
-    int same = walk.degree == want.degree && walk.position == want.position && !memcmp(walk.marks, want.marks, sizeof want.marks);
-    expect(refused || (same && !memcmp(walk.counts, want.counts, sizeof want.counts)), what);
+    int same = walk.degree == want.degree && walk.position == want.position && walk.f == want.f && walk.g == want.g;
+    same = same && !memcmp(walk.marks, want.marks, sizeof want.marks) && !memcmp(walk.counts, want.counts, sizeof want.counts);
+    expect(refused || same, what);
     came_back(slot, &walk, refused ? 0 : sizeof walk, what);
 }
 
@@ -301,6 +302,21 @@ static int bad_walk(dw_walk walk)
     return bad;
 }
 
+/* The record with the pair at its position, or 0 and 0 at the end. */
+static dw_walk with_next(dw_walk walk)
+{
+    walk.f = walk.g = 0;
+    if (walk.position < ref_length(walk.degree))
+        ref_pair(walk.degree, walk.position, &walk.f, &walk.g);
+    return walk;
+}
+
+static void holds_next(dw_walk walk, const char *what)
+{
+    dw_walk right = with_next(walk);
+    expect(walk.f == right.f && walk.g == right.g, what);
+}
+
 /* What a look answers to a record, and what a draw does. */
 static uint32_t to_look(dw_walk walk)
 {
@@ -316,15 +332,14 @@ static uint32_t to_draw(dw_walk walk, uint32_t bonder)
 /* A look or a draw on a record, whatever it holds; gives the record after it. */
 static dw_walk try_next(dw_walk walk, uint32_t bonder, int moves)
 {
-    uint32_t f = 0, g = 0, want = moves ? to_draw(walk, bonder) : to_look(walk);
-    if (want == 0)
-        ref_pair(walk.degree, walk.position, &f, &g);
+    uint32_t f = walk.f, g = walk.g, want = moves ? to_draw(walk, bonder) : to_look(walk);
     dw_walk *place = (dw_walk *)lend_copy(0, &walk, sizeof walk);
     uint32_t *to_f = lend_u32(1), *to_g = lend_u32(2);
     count(moves ? dw_draw(place, bonder, to_f, to_g) : dw_look(place, to_f, to_g), want, moves ? "dw_draw" : "dw_look");
     if (moves && want == 0) {
         walk.position++;
         walk.counts[bonder]++;
+        walk = with_next(walk);
     }
     came_walk(0, moves ? want : 1, walk, moves ? "dw_draw: walk" : "dw_look: walk");
     came_u32(1, want, f, "dw_draw, dw_look: f");
@@ -338,9 +353,10 @@ static dw_walk try_mark(dw_walk walk, uint32_t mark, int back)
     uint32_t want = bad_walk(walk) ? 3 : mark > 7 ? 18 : back && walk.marks[mark] == 0 ? 19 : 0;
     dw_walk *place = (dw_walk *)lend_copy(0, &walk, sizeof walk);
     count(back ? dw_go_back(place, mark) : dw_set_mark(place, mark), want, back ? "dw_go_back" : "dw_set_mark");
-    if (want == 0 && back)
+    if (want == 0 && back) {
         walk.position = walk.marks[mark] - 1;
-    else if (want == 0)
+        walk = with_next(walk);
+    } else if (want == 0)
         walk.marks[mark] = walk.position + 1;
     came_walk(0, want, walk, back ? "dw_go_back: walk" : "dw_set_mark: walk");
     return walk;
@@ -360,7 +376,8 @@ static dw_walk try_call(dw_walk walk)
 }
 
 /* Calls on one record that is put near the end of the list, beyond it, or anywhere, with marks that are empty, anywhere, at the end or,
- * now and then, beyond it, and with counts that are anything up to full, full or nearly so, or, now and then, more. */
+ * now and then, beyond it, with counts that are anything up to full, full or nearly so, or, now and then, more, and with a next pair that
+ * is still the first of the list, or anything. */
 static void try_walk(void)
 {
     uint32_t n = some_degree(1, 31), want = out_of_range(n) ? 1 : 0;
@@ -368,8 +385,14 @@ static void try_walk(void)
     dw_walk walk;
     memset(&walk, 0, sizeof walk);
     walk.degree = n;
+    if (want == 0)
+        walk = with_next(walk);
     count(dw_start(n, (dw_walk *)lend(0, sizeof walk)), want, "dw_start");
     came_walk(0, want, walk, "dw_start: walk");
+    if (draw(2)) {
+        walk.f = (uint32_t)draw64();
+        walk.g = draw(2) ? 0 : (uint32_t)draw64();
+    }
     walk.position = draw(2) ? length - draw(3) + draw(3) : length ? draw64() % length : draw64();
     for (int i = 0; i < 8; i++) {
         walk.marks[i] = draw(2) ? 0 : draw(2) ? 1 + draw64() % (length + 1) : draw(16) ? length + draw(2) : length + 2 + draw64() % 3;
@@ -424,19 +447,60 @@ static void full_counts(void)
             }
 }
 
+/* Records that hold the pair at their position or another one, at both ends of a list and within it. A look and a draw give what the record
+ * holds, below the end; at the end both say spent, whatever it holds. A draw that gives a pair and a return, to the same position too, set
+ * it right; setting a mark leaves it, and so does every call that is refused. */
+static void wrong_pairs(void)
+{
+    for (uint32_t n = 1; n <= 31; n++)
+        for (int i = 0; i < 50; i++) {
+            uint64_t length = ref_length(n), second = length ? 1 : 0, middle = length / 2, last = length - second;
+            const uint64_t at[] = { 0, second, middle, last, length };
+            dw_walk walk;
+            memset(&walk, 0, sizeof walk);
+            walk.degree = n;
+            walk.position = at[i / 10];
+            walk.marks[0] = walk.position + 1;
+            walk.marks[1] = middle + 1;
+            walk.marks[7] = length + 1;
+            walk.counts[7] = full;
+            dw_walk right = with_next(walk), first = right, next = right;
+            first.position = 0;
+            next.position += next.position < length;
+            first = with_next(first);
+            next = with_next(next);
+            const uint32_t pairs[][2] = { { right.f, right.g }, { right.g, right.f }, { first.f, first.g }, { next.f, next.g }, { 0, 0 },
+                                          { 1, 0 }, { 0, right.g }, { right.f, 0 }, { 2, 4 }, { UINT32_MAX, UINT32_MAX } };
+            walk.f = pairs[i % 10][0];
+            walk.g = pairs[i % 10][1];
+            try_next(walk, 0, 0);
+            try_next(try_next(walk, 3, 1), 3, 1);
+            try_next(try_next(walk, 3, 1), 3, 0);
+            try_next(try_next(walk, 7, 1), 8, 1);
+            try_next(try_mark(walk, 2, 0), 0, 0);
+            try_mark(try_mark(walk, 8, 0), 2, 1);
+            for (uint32_t mark = 0; mark < 8; mark++)
+                try_next(try_mark(walk, mark, 1), 0, 1);
+        }
+}
+
 /* A walk of many calls from a start on, against a model that sees the calls alone: where the walk is, which of its marks are set and to
- * what place, and how many pairs each bonder was given. A pair comes again only after a return. The record has no guard bytes here. */
+ * what place, and how many pairs each bonder was given. A pair comes again only after a return, and the record always holds the one at
+ * its position, or 0 and 0 at the end. It has no guard bytes here. */
 static void try_whole_walk(void)
 {
     static uint32_t drawn_in[64][64];
-    uint32_t n = 1 + draw(5), returns = 1, f, g, pair[2];
+    uint32_t n = 1 + draw(5), returns = 1, f, g, pair[2] = { 0, 0 };
     uint64_t length = ref_length(n), place = 0, marked[8] = { 0 }, given[8] = { 0 };
     int set[8] = { 0 };
     dw_walk walk;
     memset(drawn_in, 0, sizeof drawn_in);
     count(dw_start(n, &walk), 0, "whole walk: start");
+    holds_next(walk, "whole walk: first pair");
     for (int i = 0; i < 600; i++) {
         uint32_t kind = draw(24), number = some_number();
+        if (place < length)
+            ref_pair(n, place, &pair[0], &pair[1]);
         if (kind == 0) {
             count(dw_set_mark(&walk, number), number > 7 ? 18 : 0, "whole walk: set");
             if (number <= 7) {
@@ -453,10 +517,8 @@ static void try_whole_walk(void)
             count(dw_draw(&walk, number, &f, &g), 20, "whole walk: no bonder");
         } else {
             count(kind < 5 ? dw_look(&walk, &f, &g) : dw_draw(&walk, number, &f, &g), place == length ? DW_SPENT : 0, "whole walk: next");
-            if (place < length) {
-                ref_pair(n, place, &pair[0], &pair[1]);
+            if (place < length)
                 expect(f == pair[0] && g == pair[1], "whole walk: pair");
-            }
             if (place < length && kind >= 5) {
                 place++;
                 given[number]++;
@@ -465,6 +527,7 @@ static void try_whole_walk(void)
             }
         }
         expect(walk.degree == n && walk.position == place, "whole walk: position");
+        holds_next(walk, "whole walk: next pair");
         for (int m = 0; m < 8; m++) {
             expect(walk.marks[m] == (set[m] ? marked[m] + 1 : 0), "whole walk: marks");
             expect(walk.counts[m] == given[m], "whole walk: counts");
@@ -795,19 +858,29 @@ static void null_pointers(void)
     expect(length == 13 && at == length && size == 0, "null: an empty name is at the file's end");
 }
 
-/* A record that is copied, kept and set to any position of its list; at the list's end the walk is spent. */
+/* A record that is copied, kept and taken to a position as the header says, by a mark that is written and put back; at the list's end the
+ * walk is spent. Where the position alone is written, the pair stays. */
 static void kept_record(void)
 {
     uint32_t f = 0, g = 0;
     dw_walk walk, kept;
     count(dw_start(4, &walk), 0, "kept record: start");
     kept = walk;
-    walk.position = 41;
+    walk.position = 7;
+    walk.marks[0] = 3;
+    uint64_t mark = walk.marks[0];
+    walk.marks[0] = 41 + 1;
+    count(dw_go_back(&walk, 0), 0, "kept record: taken to 41");
+    walk.marks[0] = mark;
+    expect(walk.position == 41 && walk.f == 19 && walk.g == 25, "kept record: at 41");
     count(dw_draw(&walk, 5, &f, &g), 0, "kept record: last");
     expect(f == 19 && g == 25 && walk.position == 42 && walk.counts[5] == 1 && kept.counts[5] == 0, "kept record: pair 41");
     count(dw_look(&walk, &f, &g), DW_SPENT, "kept record: spent");
     count(dw_look(&kept, &f, &g), 0, "kept record: first");
     expect(f == 19 && g == 17 && kept.degree == 4 && kept.position == 0, "kept record: pair 0");
+    walk.position = 41;
+    count(dw_look(&walk, &f, &g), 0, "kept record: position alone");
+    expect(f == 0 && g == 0, "kept record: 0 and 0, as it holds");
     walk.position = 43;
     count(dw_look(&walk, &f, &g), 3, "kept record: behind the end");
 }
@@ -857,6 +930,7 @@ int main(int argc, char **argv)
     part("kept record", kept_record, 1, 3, 3, spent);
     part("marks at the end", marks_at_the_end, 1, 18, 19, bit(3) | spent);
     part("full counts", full_counts, 1, 18, 21, bit(3) | spent);
+    part("wrong pairs", wrong_pairs, 1, 18, 21, spent);
     part("dw_length", try_length, 100 * scale, 1, 1, 0);
     part("dw_pair_at", try_pair_at, 300 * scale, 1, 2, 0);
     part("dw_unordered_pair_at", try_unordered_pair_at, 300 * scale, 1, 2, 0);

@@ -47,10 +47,10 @@ for row in range(4):
         say(f"site 2 {row} {col}: {F_ROWS[row][col]} {G_ROWS[row][col]}")
 say("sheet: done")
 say("bytes:", *padded((symbol for f, g in zip("".join(F_ROWS), "".join(G_ROWS)) for symbol in (f, g)), 34))
-say("start 1: 1 0 0")
+say("start 1: 1 0 0 0 0")
 say("look: spent")
 say("draw: spent")
-say("record: 1 0 0")
+say("record: 1 0 0 0 0")
 for n in (0, 32):
     say(f"order {n}: refused 1")
     say(f"length {n}: refused 1")

@@ -11,8 +11,9 @@ FULL = 10**18
 
 
 def turns(degree, position, mark, given, bonder, times, entry, length):
-    """Turns over a record whose mark 5 is stored as `mark` and whose count 6 is `given`, the others 0; each draws for the bonder."""
-    counts = [0] * 8
+    """Turns over a record whose mark 5 is stored as `mark` and whose count 6 is `given`, the others 0, and which holds 6 and 12 at first;
+    each draws for the bonder."""
+    counts, pair = [0] * 8, (6, 12)
     counts[6] = given
     for _ in range(times):
         if not 1 <= degree <= 31 or position > length or mark > length + 1 or max(counts) > FULL:
@@ -20,7 +21,7 @@ def turns(degree, position, mark, given, bonder, times, entry, length):
         elif position == length:
             look = "spent"
         else:
-            look = "{} {}".format(*entry(position))
+            look = "{} {}".format(*pair)
         draw = look
         if look != "refused 3" and bonder > 7:
             draw = "refused 20"
@@ -29,7 +30,8 @@ def turns(degree, position, mark, given, bonder, times, entry, length):
         elif look[0].isdigit():
             position += 1
             counts[bonder] += 1
-        print(f"look: {look} draw: {draw} record: {degree} {position} 0 0 0 0 0 {mark} 0 0", *counts)
+            pair = entry(position) if position < length else (0, 0)
+        print(f"look: {look} draw: {draw} record: {degree} {position} 0 0 0 0 0 {mark} 0 0", *counts, *pair)
 
 
 def opened(reply, name=b"", powers=(), forces=()):
@@ -50,7 +52,7 @@ turns(3, 0, 0, 2**64 - 1, 8, 1, *of_third)
 turns(3, 0, 0, 0, 8, 1, *of_third)
 turns(3, 10, 0, 0, 2**32 - 1, 1, *of_third)
 turns(1, 0, 1, 0, 7, 2, None, 0)
-turns(31, LAST, LAST + 2, 0, 6, 3, lambda position: pair_at(31, position), LAST + 1)
+turns(31, LAST - 1, LAST + 2, 0, 6, 4, lambda position: pair_at(31, position), LAST + 1)
 turns(31, LAST + 1, 2**64 - 1, 0, 0, 1, None, LAST + 1)
 turns(31, LAST + 2, 0, 0, 0, 1, None, LAST + 1)
 turns(0, 0, 0, 0, 0, 1, None, 0)

@@ -312,14 +312,15 @@ def unordered():
 
 
 def walks():
-    """For each degree a checksum of what a start and 3000 calls answer, and of the position and the counts after them: the calls draw for the
-    bonders 0 to 8 in turn, but for every sixteenth, which sets one of the marks 0 to 8, and every 64th, which goes back to one. Degrees 0
-    and 32 get 1 and then always 3."""
+    """For each degree a checksum of what a start and 3000 calls answer, each with the next pair after it, and of the position and the counts
+    after all: the calls draw for the bonders 0 to 8 in turn, but for every sixteenth, which sets one of the marks 0 to 8, and every 64th,
+    which goes back to one. The next pair is 0 and 0 at the end. Degrees 0 and 32 get 1 and then always 3."""
     for n in (*range(9), 32):
         if n in (0, 32):
-            print("walk", n, mixed(0, 1, *[3] * 3000, *[0] * 9))
+            print("walk", n, mixed(0, 1, 0, 0, *[3, 0, 0] * 3000, *[0] * 9))
             continue
-        entries, place, marks, given, total = coprime_pairs(n), 0, {}, [0] * 8, mixed(0, 0)
+        entries, place, marks, given = [*coprime_pairs(n), (0, 0)], 0, {}, [0] * 8
+        total = mixed(0, 0, *entries[0])
         for i in range(3000):
             if i % 64 == 45:
                 mark = i // 64 % 9
@@ -332,12 +333,13 @@ def walks():
                     marks[mark] = place
             elif i % 9 == 8:
                 total = mixed(total, 20)
-            elif place < len(entries):
+            elif place < len(entries) - 1:
                 total = mixed(total, *entries[place])
                 place += 1
                 given[i % 9] += 1
             else:
                 total = mixed(total, 255)
+            total = mixed(total, *entries[place])
         print("walk", n, mixed(total, place, *given))
 
 

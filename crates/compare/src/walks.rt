@@ -1,11 +1,11 @@
-// Checksums of walks with marks set, returns, and draws for each bonder.
+// Checksums of walks with marks set, returns, and draws for each bonder, and of the pairs that their records hold.
 use crate::random::mixed;
 use walk::Change;
 use walk::Changed;
 use walk::Next;
 use walk::Walk;
 
-// A record, and the checksum of what the calls before it answered.
+// A record, and the checksum of what the calls before it answered and of the pairs that records held after them.
 struct Summed {
     walk: Walk,
     sum: u64,
@@ -58,6 +58,16 @@ fn called(at: Summed, i: u64) -> Summed {
     drawn(sum, walk, (i % 9) as u32)
 }
 
+// The pair that the record holds, added.
+fn kept(at: Summed) -> Summed {
+    let walk = at.walk;
+    let sum = mixed(at.sum, walk.f as u64);
+    Summed {
+        walk,
+        sum: mixed(sum, walk.g as u64),
+    }
+}
+
 fn counted(sum: u64, counts: [u64; 8]) -> u64 {
     let mut all = sum;
     for i in 0..8usize {
@@ -66,12 +76,12 @@ fn counted(sum: u64, counts: [u64; 8]) -> u64 {
     all
 }
 
-// The checksum of 3000 calls, and the position and the counts after them.
+// The checksum of a start and 3000 calls, of the pair that the record holds after each, and of the position and the counts after all.
 pub fn walk_sum(n: u32) -> u64 {
     let started = walk::start(n);
-    let mut at = changed(0, started);
+    let mut at = kept(changed(0, started));
     for i in 0..3000u64 {
-        at = called(at, i);
+        at = kept(called(at, i));
     }
     let end = at.walk;
     let counts = end.counts;

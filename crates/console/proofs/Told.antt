@@ -83,9 +83,16 @@ module _ (n : ℕ) (walk : Walk) {walk′ : Walk} {s : ℕ} (e : Starts n (begun
   pub start-refused : T (not (eqb s 0)) → Starts n walk walk s
   start-refused t = unchanged (startReply n) (begun n) walk (record { returned = e .returned; stored = refl }) t
 
--- a draw changes the position and the counts alone
+-- a draw changes neither the degree nor the marks
 abbrev pub moved : Walk → Walk → Walk
-moved walk to = record { degree = walk .degree; position = to .position; marks = walk .marks; counts = to .counts }
+moved walk to = record {
+  degree = walk .degree;
+  position = to .position;
+  marks = walk .marks;
+  counts = to .counts;
+  f = to .f;
+  g = to .g;
+}
 
 moved-after : (walk : Walk) (bonder : ℕ) → moved walk (afterDraw walk bonder) ≡ afterDraw walk bonder
 unfolding afterDraw

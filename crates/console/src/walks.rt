@@ -101,11 +101,13 @@ pub extern "C" fn dw_start(n: u32, walk: &mut Walk) -> u32
         walk.position = outcome.walk.position;
         walk.marks = outcome.walk.marks;
         walk.counts = outcome.walk.counts;
+        walk.f = outcome.walk.f;
+        walk.g = outcome.walk.g;
     }
     outcome.status
 }
 
-// The pair at the position of a walk that the console lends.
+// The next pair of a walk that the console lends.
 #[no_mangle]
 pub extern "C" fn dw_look(walk: &Walk, f: &mut u32, g: &mut u32) -> u32
     ensures { λ r. ⌜ Looks (now (walk .entry)) (now (f .entry)) (now (g .entry)) (now (f .exit)) (now (g .exit)) r ⌝ }
@@ -126,6 +128,8 @@ pub extern "C" fn dw_draw(walk: &mut Walk, bonder: u32, f: &mut u32, g: &mut u32
         // All that a draw changes: the marks need not be written back.
         walk.position = outcome.walk.position;
         walk.counts = outcome.walk.counts;
+        walk.f = outcome.walk.f;
+        walk.g = outcome.walk.g;
     }
     outcome.status
 }

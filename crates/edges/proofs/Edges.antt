@@ -15,7 +15,7 @@ use Rattle.squares.specs.Symbols.{outputCell, symbol}
 use Rattle.listing.specs.Replies.{pairsFrom, fromReply}
 use Rattle.squares.specs.Sheets.{sheet}
 use Rattle.squares.specs.Replies.{siteReply, sheetReply, sheetOf, sheetBytes}
-use Rattle.walk.specs.Walks.{badRecord, lookReply, drawReply, afterDraw}
+use Rattle.walk.specs.Walks.{nextPair, badRecord, lookReply, drawReply, afterDraw}
 use Rattle.trial.specs.Number.{encodeNumber, parseNumber}
 use Rattle.trial.specs.Trial.{encodeHead, encodeBody, encode, parseCodes, parseHead, parseText, parseName, parseEnd, parseBody, parse}
 use Rattle.trial.specs.Replies.{contentCauses, read, writeReply}
@@ -24,7 +24,7 @@ use Rattle.edges.specs.Table.{EdgesClaim}
 pub edges : EdgesClaim
 unfolding add mul scale degree inverse bringDown divide gcd outside offDegree codeCauses
     chain wordsFrom compositions sequences block turn build pairs pairAtReply
-    positionReply pairsFrom fromReply outputCell symbol siteReply sheet sheetReply sheetOf sheetBytes badRecord lookReply drawReply
+    positionReply pairsFrom fromReply outputCell symbol siteReply sheet sheetReply sheetOf sheetBytes nextPair badRecord lookReply drawReply
     afterDraw encodeNumber parseNumber encodeHead encodeBody encode parseCodes parseHead
     parseText parseName parseEnd parseBody parse contentCauses read writeReply
 edges = refl

@@ -92,17 +92,17 @@ laid =
 abbrev pub sheets : List Case
 sheets = sheetReply 2 7 5 34 is served [] ∷ served (sheetBytes 2 7 5 (zeros 34)) is served (laid ++ zeros 2) ∷ []
 
--- Degree 1: the first draw says spent, and leaves degree, position and the bonder's count.
+-- Degree 1: the first draw says spent, and leaves degree, position, the bonder's count and the next pair, which is 0 and 0.
 abbrev pub fields : Walk → List ℕ
-fields walk = walk .degree ∷ walk .position ∷ getD (walk .counts) 0 0 ∷ []
+fields walk = walk .degree ∷ walk .position ∷ getD (walk .counts) 0 0 ∷ walk .f ∷ walk .g ∷ []
 
 abbrev pub walks : List Case
 walks =
     startReply 1 is served []
-    ∷ served (fields (started 1)) is served (1 ∷ 0 ∷ 0 ∷ [])
+    ∷ served (fields (started 1)) is served (1 ∷ 0 ∷ 0 ∷ 0 ∷ 0 ∷ [])
     ∷ lookReply (started 1) is spent
     ∷ drawReply (started 1) 0 is spent
-    ∷ served (fields (afterDraw (started 1) 0)) is served (1 ∷ 0 ∷ 0 ∷ [])
+    ∷ served (fields (afterDraw (started 1) 0)) is served (1 ∷ 0 ∷ 0 ∷ 0 ∷ 0 ∷ [])
     ∷ []
 
 -- Degrees 0 and 32, at each call that answers them with 1.

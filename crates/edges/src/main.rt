@@ -96,6 +96,8 @@ fn record(walk: Walk) {
     number(walk.degree as u64);
     number(walk.position);
     number(walk.counts[0]);
+    number(walk.f as u64);
+    number(walk.g as u64);
 }
 
 fn start(n: u32) {

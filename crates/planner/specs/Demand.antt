@@ -1,7 +1,7 @@
--- Demand 3, whole, with the marks and the bonders of document 02, requests c and g. It is about what the calls answer: `startReply` and
--- `started` are the reply and the record that the contract of start gives, `replyTo` and `recordAfter`, over which a list of calls runs,
--- are those of look, draw, setting a mark and going back, `pairAtReply`, `positionReply` and `siteReply` those of the pair call, the
--- position call and the site call. The fields that name them tie the list of pairs and the squares to these calls.
+-- Demand 3, whole, with the marks, the bonders and the kept pair of document 02, requests c, g and h. It is about what the calls answer:
+-- `startReply` and `started` are the reply and the record that the contract of start gives, `replyTo` and `recordAfter`, over which a list
+-- of calls runs, are those of look, draw, setting a mark and going back, `pairAtReply`, `positionReply` and `siteReply` those of the pair
+-- call, the position call and the site call. The fields that name them tie the list of pairs and the squares to these calls.
 use mathlib.Core.Logic.{_↔_}
 use mathlib.Core.List.{List, [], _∷_}
 use mathlib.Core.Path.{_≡_}
@@ -31,7 +31,7 @@ pub record Demand (n : ℕ) : Type 0 where
   -- Starting gives the record from which the calls go on.
   pub begins : (startReply n ≡ served []) × (started n ≡ begun n)
   -- For every list of looks, draws, marks set and returns on it: each answer is the one that the calls and answers before it say, and so is
-  -- the record afterwards; no answer is number 3.
+  -- the record afterwards, which holds the pair at its position, or 0 and 0 at the list's end; no answer is number 3.
   pub walk : (calls : List Call) → Walked (begun n) calls
   -- Which call is served and which refused, and by which number.
   pub decided : (calls : List Call) → Decided (begun n) calls

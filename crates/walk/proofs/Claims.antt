@@ -14,11 +14,12 @@ use Rattle.walk.specs.declared.Walk.{Walk}
 use Rattle.walk.specs.Walks.{begun, fullCount, badRecord, entryReply, afterDraw, afterSetMark, afterGoBack}
 use Rattle.walk.specs.Calls.{Call, look, draw, setMark, goBack, answers, callAt, answer, returned, draws, returns}
 use Rattle.walk.specs.Past.{pastAt}
-use Rattle.walk.specs.Claims.{GoodClaim, Sound, Shows, countBefore, WalkClaim, BadClaim, RefusedClaim, drawsBefore}
+use Rattle.walk.specs.Claims.{GoodClaim, Sound, Shows, countBefore, WalkClaim, BadClaim, RefusedClaim, AsIsClaim, drawsBefore}
 use Rattle.walk.specs.Claims.{Plain, PlainClaim, Fresh, FreshClaim, Full, FullClaim}
 use Rattle.walk.proofs.Tests.{test-bad}
-use Rattle.walk.proofs.Looks.{good, accepted, bad-look}
-use Rattle.walk.proofs.Draws.{draw-bad}
+use Rattle.walk.proofs.Looks.{good, accepted, bad-look, look-below, look-end}
+use Rattle.walk.proofs.Keeping.{right-at}
+use Rattle.walk.proofs.Draws.{draw-bad, end-reply, full-reply, pair-reply}
 use Rattle.walk.proofs.Marks.{set-tested, back-untested}
 use Rattle.walk.proofs.Told.{take-many}
 use Rattle.walk.proofs.Walking.{not-refused, Refusing, by-number, by-count, refusing, take-answers, each-call, all, walked}
@@ -53,6 +54,17 @@ refused-unmoved walk (draw bonder) number e = sym (kept (sym e) _ walk)
 refused-unmoved walk (setMark mark) number e = sym (kept (sym e) _ walk)
 refused-unmoved walk (goBack mark) number e = sym (kept (sym e) _ walk)
 
+pub read-as-is : AsIsClaim
+read-as-is walk g =
+    let ok = accepted walk g in
+    record {
+      looked = λ l. sym (look-below walk ok l);
+      drawn = λ bonder one room l. sym (pair-reply walk bonder ok one l (λ e. omega arith));
+      full = λ bonder one full l. sym (full-reply walk bonder ok one l full);
+      look-spent = λ e. sym (look-end walk ok (omega arith));
+      draw-spent = λ bonder one e. sym (end-reply walk bonder ok one (omega arith));
+    }
+
 -- the record that starting gives is sound
 pub begun-sound : (n : ℕ) → 1 ≤ n → n ≤ 31 → Sound (begun n)
 unfolding badRecord
@@ -60,6 +72,7 @@ begun-sound n low high = record {
   accepted = rw (inside 1 31 low high, le-ltb (listLength n) 0 (omega arith), le-ltb (listLength n + 1) 0 (omega arith));
   eight-marks = refl;
   eight-counts = refl;
+  right = right-at n 0 _ _;
 }
 
 at-least-one : {many : ℕ} → (many ≡ 0 → ⊥) → 1 ≤ many

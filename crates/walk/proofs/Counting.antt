@@ -17,7 +17,7 @@ use Rattle.poly.specs.Limits.{listLength}
 use Rattle.poly.proofs.Ranges.{list-length-lt}
 use Rattle.pairs.specs.Counts.{sum}
 use Rattle.walk.specs.declared.Walk.{Walk}
-use Rattle.walk.specs.Walks.{begun, fullCount, oneMore, drawReply, movedOn, afterDraw, setMarkReply, afterSetMark}
+use Rattle.walk.specs.Walks.{begun, fullCount, held, oneMore, drawReply, movedOn, afterDraw, setMarkReply, afterSetMark}
 use Rattle.walk.specs.Walks.{goBackReply, afterGoBack}
 use Rattle.walk.specs.Calls.{Call, look, draw, setMark, goBack, Answered, replyTo, recordAfter, answers, last, howMany}
 use Rattle.walk.specs.Calls.{returned, returns, givenTo, gave}
@@ -63,7 +63,7 @@ module _ (measure : Walk → ℕ) (kind : Call → Reply → ℕ)
       go : (reply : Reply) → drawReply walk bonder ≡ reply
           → measure (after reply (movedOn walk bonder) walk) ≡ measure walk + kind (draw bonder) reply
       go (served values) e =
-          let given = draw-given (walk .degree) (walk .position) (walk .counts) bonder
+          let given = draw-given (walk .degree) (walk .position) (walk .counts) bonder (held walk)
           (sym (draw-good walk bonder (sound .accepted)) ∙ e) in
           adds walk sound bonder (given .one) values
       go (refused number) e = rw (nothing bonder number) (sym (add-zero (measure walk)))

@@ -5,6 +5,7 @@ use Prim.Native.Nat.{ℕ, _+_, _<_}
 use native.Mathlib.Omega.{arith}
 use borrow.Author.Tests.{lt-ltb, le-ltb}
 use lib.ListN.{length, getD, take}
+use Rattle.pairs.specs.Pairs.{entry}
 use Rattle.walk.specs.declared.Walk.{Walk}
 use Rattle.walk.specs.Calls.{Call, look, draw, setMark, goBack, Answered, callAt, answer, howMany, givenTo}
 use Rattle.walk.specs.Past.{expected, pastAt}
@@ -36,13 +37,13 @@ module _ (walk : Walk) (sound : Sound walk) (calls : List Call) where
   pub decided : Decided walk calls
   decided = record {
     looked = λ k h e. answers-to k h look e;
-    no-bonder = λ k bonder h e l. answers-to k h (draw bonder) e ∙ draw-range n (place k) (given k) bonder l;
+    no-bonder = λ k bonder h e l. answers-to k h (draw bonder) e ∙ draw-range n (place k) (given k) bonder (entry n (place k)) l;
     full = λ k bonder h e one below most.
-        answers-to k h (draw bonder) e ∙ draw-full n (place k) (given k) bonder one below (given-at k bonder ∙ most);
+        answers-to k h (draw bonder) e ∙ draw-full n (place k) (given k) bonder (entry n (place k)) one below (given-at k bonder ∙ most);
     shown = λ k bonder h e one room.
         answers-to k h (draw bonder) e
-        ∙ draw-free n (place k) (given k) bonder one (λ most. let is = given-at k bonder in omega arith);
-    at-end = λ k bonder h e one end. answers-to k h (draw bonder) e ∙ draw-end n (place k) (given k) bonder one end;
+        ∙ draw-free n (place k) (given k) bonder (entry n (place k)) one (λ most. let is = given-at k bonder in omega arith);
+    at-end = λ k bonder h e one end. answers-to k h (draw bonder) e ∙ draw-end n (place k) (given k) bonder (entry n (place k)) one end;
     marked = λ k mark h e le. answers-to k h (setMark mark) e ∙ rw (le-ltb 7 mark le);
     no-mark-set = λ k mark h e l. answers-to k h (setMark mark) e ∙ rw (lt-ltb 7 mark l);
     no-mark-back = λ k mark h e l. answers-to k h (goBack mark) e ∙ rw (lt-ltb 7 mark l);

@@ -10,15 +10,17 @@ use lib.ListN.{getD}
 use Rattle.reply.specs.Reply.{Reply, served, refused, spent, unless}
 use Rattle.reply.proofs.Order.{failed, kept}
 use Rattle.poly.specs.Limits.{listLength}
+use Rattle.euclid.specs.Chain.{Pair}
 use Rattle.walk.specs.declared.Walk.{Walk}
-use Rattle.walk.specs.Walks.{fullCount, badRecord, recordCause, entryReply, bonderCause, fullCause, drawReply, movedOn, afterDraw}
+use Rattle.walk.specs.Walks.{fullCount, badRecord, recordCause, pairOrSpent, held, heldReply, bonderCause, fullCause}
+use Rattle.walk.specs.Walks.{drawReply, movedOn, afterDraw}
 use Rattle.walk.specs.Claims.{NotRefused}
 use Rattle.walk.proofs.Tests.{tested}
 
--- ---- at a place of the list, with so many pairs given to each bonder
-module _ (n place : ℕ) (given : List ℕ) (bonder : ℕ) where
+-- ---- at a place of the list, with so many pairs given to each bonder, and a pair to give
+module _ (n place : ℕ) (given : List ℕ) (bonder : ℕ) (two : Pair) where
   abbrev pub drawnAt : Reply
-  drawnAt = unless (bonderCause bonder ∷ fullCause n place given bonder ∷ []) (entryReply n place)
+  drawnAt = unless (bonderCause bonder ∷ fullCause n place given bonder ∷ []) (pairOrSpent n place two)
 
   abbrev count : ℕ
   count = getD given bonder 0
@@ -34,7 +36,7 @@ module _ (n place : ℕ) (given : List ℕ) (bonder : ℕ) where
       pub draw-full : count ≡ fullCount → drawnAt ≡ refused 21
       draw-full e = rw (le-ltb 7 bonder one, lt-ltb place (listLength n) l, eq-eqb count fullCount e)
 
-      pub draw-pair : (count ≡ fullCount → ⊥) → drawnAt ≡ entryReply n place
+      pub draw-pair : (count ≡ fullCount → ⊥) → drawnAt ≡ pairOrSpent n place two
       draw-pair ne = rw (le-ltb 7 bonder one, lt-ltb place (listLength n) l, ne-eqb count fullCount ne)
 
   -- the four cases
@@ -42,7 +44,7 @@ module _ (n place : ℕ) (given : List ℕ) (bonder : ℕ) where
     stranger : 7 < bonder → drawnAt ≡ refused 20 → Case
     ended : bonder ≤ 7 → listLength n ≤ place → drawnAt ≡ spent → Case
     full : count ≡ fullCount → drawnAt ≡ refused 21 → Case
-    pair : bonder ≤ 7 → place < listLength n → (count ≡ fullCount → ⊥) → drawnAt ≡ entryReply n place → Case
+    pair : bonder ≤ 7 → place < listLength n → (count ≡ fullCount → ⊥) → drawnAt ≡ pairOrSpent n place two → Case
 
   pub case : Case
   case = go (decLt 7 bonder) (decLt place (listLength n)) (ℕ-discrete count fullCount)
@@ -54,20 +56,20 @@ module _ (n place : ℕ) (given : List ℕ) (bonder : ℕ) where
       go (no b) (yes d) (no e) = pair (omega arith) d e (draw-pair (omega arith) d e)
 
   -- for one of the eight bonders, whose count is not in the way
-  pub draw-free : bonder ≤ 7 → (count ≡ fullCount → ⊥) → drawnAt ≡ entryReply n place
+  pub draw-free : bonder ≤ 7 → (count ≡ fullCount → ⊥) → drawnAt ≡ pairOrSpent n place two
   draw-free one room = go case
     where
-      go : Case → drawnAt ≡ entryReply n place
+      go : Case → drawnAt ≡ pairOrSpent n place two
       go (stranger b e) = absurd (omega arith)
       go (ended b l e) = e ∙ rw (le-ltb place (listLength n) l)
       go (full c e) = absurd (room c)
       go (pair b l ne e) = e
 
-  -- a draw that is not refused shows the entry
-  pub draw-shows : NotRefused drawnAt → drawnAt ≡ entryReply n place
+  -- a draw that is not refused shows the pair
+  pub draw-shows : NotRefused drawnAt → drawnAt ≡ pairOrSpent n place two
   draw-shows shows = go case
     where
-      go : Case → drawnAt ≡ entryReply n place
+      go : Case → drawnAt ≡ pairOrSpent n place two
       go (stranger b e) = absurd (rw e at shows)
       go (ended b l e) = e ∙ rw (le-ltb place (listLength n) l)
       go (full c e) = absurd (rw e at shows)
@@ -91,7 +93,7 @@ module _ (n place : ℕ) (given : List ℕ) (bonder : ℕ) where
 -- ---- of a record
 module _ (walk : Walk) (bonder : ℕ) where
   abbrev at : Reply
-  at = drawnAt (walk .degree) (walk .position) (walk .counts) bonder
+  at = drawnAt (walk .degree) (walk .position) (walk .counts) bonder (held walk)
 
   pub draw-bad : badRecord walk ≡ true → refused 3 ≡ drawReply walk bonder
   unfolding drawReply
@@ -101,10 +103,23 @@ module _ (walk : Walk) (bonder : ℕ) where
   unfolding drawReply
   draw-good e = rw e
 
+  module _ (sound : badRecord walk ≡ false) (one : bonder ≤ 7) where
+    pub end-reply : listLength (walk .degree) ≤ walk .position → spent ≡ drawReply walk bonder
+    end-reply l = sym (draw-good sound ∙ draw-end (walk .degree) (walk .position) (walk .counts) bonder (held walk) one l)
+
+    module _ (l : walk .position < listLength (walk .degree)) where
+      pub full-reply : getD (walk .counts) bonder 0 ≡ fullCount → refused 21 ≡ drawReply walk bonder
+      full-reply e = sym (draw-good sound ∙ draw-full (walk .degree) (walk .position) (walk .counts) bonder (held walk) one l e)
+
+      pub pair-reply : (getD (walk .counts) bonder 0 ≡ fullCount → ⊥) → served (walk .f ∷ walk .g ∷ []) ≡ drawReply walk bonder
+      pair-reply ne =
+          sym (draw-good sound ∙ draw-pair (walk .degree) (walk .position) (walk .counts) bonder (held walk) one l ne
+          ∙ rw (lt-ltb (walk .position) (listLength (walk .degree)) l))
+
   pub draw-refused : {k : ℕ} → refused k ≡ tested walk bonder 20 → refused k ≡ drawReply walk bonder
   unfolding drawReply
   draw-refused e =
-      failed (fullCause (walk .degree) (walk .position) (walk .counts) bonder ∷ []) (entryReply (walk .degree) (walk .position))
+      failed (fullCause (walk .degree) (walk .position) (walk .counts) bonder ∷ []) (heldReply walk)
       (recordCause walk ∷ bonderCause bonder ∷ []) e
 
   pub moves : {values : List ℕ} → served values ≡ drawReply walk bonder → movedOn walk bonder ≡ afterDraw walk bonder

@@ -1,9 +1,12 @@
 pub mod Above
 pub mod Tests
 pub mod Looks
+pub mod Keeping
+pub mod Beginning
 pub mod Draws
 pub mod Marks
 pub mod Setting
+pub mod Righting
 pub mod Soundness
 pub mod Told
 pub mod Walking
@@ -12,3 +15,4 @@ pub mod Returning
 pub mod Counting
 pub mod Deciding
 pub mod Claims
+pub mod Examples

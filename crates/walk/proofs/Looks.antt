@@ -1,18 +1,16 @@
 -- What the test of a record shows of it, and the reply to a look that follows, case by case.
 use mathlib.Core.Bool.{true, false, _||_}
-use mathlib.Core.List.{List}
+use mathlib.Core.List.{[], _∷_}
 use mathlib.Core.Path.{_≡_, _∙_}
 use Prim.Native.Nat.{ℕ, _+_, _^_, _≤_, _<_}
-use native.Mathlib.Decide.{decLt}
 use native.Mathlib.Omega.{arith}
-use borrow.Author.Tests.{lt-ltb, le-ltb, lt-leb, le-leb, ltb-false}
+use borrow.Author.Tests.{lt-ltb, le-ltb, ltb-false}
 use lib.Dec.{ltb}
 use Rattle.reply.specs.Reply.{served, refused, spent}
 use Rattle.poly.specs.Limits.{outside, listLength}
 use Rattle.poly.proofs.Ranges.{inside, within, neither, list-length-lt}
-use Rattle.pairs.specs.Replies.{pairAtReply}
 use Rattle.walk.specs.declared.Walk.{Walk}
-use Rattle.walk.specs.Walks.{anyAbove, fullCount, badRecord, entryReply, lookReply}
+use Rattle.walk.specs.Walks.{anyAbove, fullCount, badRecord, lookReply}
 use Rattle.walk.specs.Claims.{Good}
 use Rattle.walk.proofs.Above.{not-above, none-above}
 
@@ -61,7 +59,7 @@ module _ (walk : Walk) where
           counts = not-above fullCount (walk .counts) counts;
         }
 
-    degree-good : outside 1 31 n ≡ false
+    pub degree-good : outside 1 31 n ≡ false
     degree-good = inside 1 31 (good .degree-low) (good .degree-high)
 
     -- the next position is a number of 64 bits
@@ -70,31 +68,14 @@ module _ (walk : Walk) where
         let l = good .position in
         omega (arith, list-length-lt n (good .degree-high))
 
-    -- ---- the entry at the position, by the reply of the pair call
-    pub entry-pair : {values : List ℕ} → served values ≡ pairAtReply n position
-        → (position < listLength n) × (served values ≡ entryReply n position)
-    unfolding pairAtReply
-    entry-pair {values} e = go (decLt position (listLength n))
-      where
-        go : Dec (position < listLength n) → (position < listLength n) × (served values ≡ entryReply n position)
-        go (yes l) = (l, rw (lt-ltb position (listLength n) l) (rw (degree-good, lt-leb (listLength n) position l) at e))
-        go (no l) =
-            absurd (let r = rw (degree-good, le-leb (listLength n) position (omega arith)) at e in
-            let z : _≡_ {A = ℕ} 0 1 = cc in omega arith)
-
-    pub entry-end : {k : ℕ} → refused k ≡ pairAtReply n position → (listLength n ≤ position) × (spent ≡ entryReply n position)
-    unfolding pairAtReply
-    entry-end {k} e = go (decLt position (listLength n))
-      where
-        go : Dec (position < listLength n) → (listLength n ≤ position) × (spent ≡ entryReply n position)
-        go (yes l) =
-            absurd (let r = rw (degree-good, lt-leb (listLength n) position l) at e in
-            let z : _≡_ {A = ℕ} 0 1 = cc in omega arith)
-        go (no l) = (omega arith, rw (le-ltb position (listLength n) (omega arith)))
-
-    pub good-look : lookReply walk ≡ entryReply n position
+    -- ---- what a look shows
+    pub look-below : position < listLength n → served (walk .f ∷ walk .g ∷ []) ≡ lookReply walk
     unfolding lookReply
-    good-look = rw sound
+    look-below l = rw (sound, lt-ltb position (listLength n) l)
+
+    pub look-end : listLength n ≤ position → spent ≡ lookReply walk
+    unfolding lookReply
+    look-end l = rw (sound, le-ltb position (listLength n) l)
 
   pub bad-look : badRecord walk ≡ true → refused 3 ≡ lookReply walk
   unfolding lookReply

@@ -7,7 +7,7 @@ use lib.ListN.{getD, set}
 use Rattle.reply.specs.Reply.{served, refused}
 use Rattle.reply.proofs.Order.{passed, failed, kept}
 use Rattle.walk.specs.declared.Walk.{Walk}
-use Rattle.walk.specs.Walks.{recordCause, markCause, emptyCause, setMarkReply, afterSetMark, goBackReply, afterGoBack}
+use Rattle.walk.specs.Walks.{walkAt, recordCause, markCause, emptyCause, setMarkReply, afterSetMark, goBackReply, afterGoBack}
 use Rattle.walk.proofs.Tests.{tested}
 
 module _ (walk : Walk) (mark : ℕ) where
@@ -26,6 +26,8 @@ module _ (walk : Walk) (mark : ℕ) where
         position = walk .position;
         marks = set (walk .marks) mark (walk .position + 1);
         counts = walk .counts;
+        f = walk .f;
+        g = walk .g;
       } ≡ afterSetMark walk mark
   unfolding afterSetMark
   set-done e = rw (← e)
@@ -54,11 +56,6 @@ module _ (walk : Walk) (mark : ℕ) where
   back-refused e = kept e _ walk
 
   pub back-done : served [] ≡ goBackReply walk mark
-      → record {
-        degree = walk .degree;
-        position = getD (walk .marks) mark 0 - 1;
-        marks = walk .marks;
-        counts = walk .counts;
-      } ≡ afterGoBack walk mark
+      → walkAt (walk .degree) (getD (walk .marks) mark 0 - 1) (walk .marks) (walk .counts) ≡ afterGoBack walk mark
   unfolding afterGoBack
   back-done e = rw (← e)

@@ -41,7 +41,7 @@ module _ (walk : Walk) (sound : Sound walk) (calls : List Call) where
   drawn i h bonder e not =
       let past = pastAt walk calls i in
       let a = answer-to i h (draw bonder) e in
-      a ∙ draw-shows n (past .place) (past .given) bonder (rw a at not)
+      a ∙ draw-shows n (past .place) (past .given) bonder (entry n (past .place)) (rw a at not)
 
   shown : (i : ℕ) → i < length calls → (call : Call) → callAt calls i ≡ call → Shows call (answer walk calls i)
       → answer walk calls i ≡ entryReply n (pastAt walk calls i .place)

@@ -1,5 +1,4 @@
--- A number picked from a list, and a list with one number replaced, by choosing each number in turn: after i of them it is picked or
--- replaced if its place is below i.
+-- A list with one number replaced, by choosing each number in turn: after i of them it is replaced if its place is below i.
 use mathlib.Core.Bool.{cond}
 use mathlib.Core.List.{List}
 use mathlib.Core.Path.{_≡_, sym, ap}
@@ -8,27 +7,8 @@ use native.Mathlib.Decide.{decLt, ℕ-discrete}
 use native.Mathlib.Omega.{arith}
 use borrow.Author.Tests.{lt-ltb, le-ltb, eq-eqb, ne-eqb}
 use lib.Dec.{ltb, eqb}
-use lib.ListN.{length, getD, set, List·getD-eq-default}
+use lib.ListN.{length, getD, set}
 use lib.Seq.{set-getD, set-out}
-
-module _ (l : List ℕ) (place : ℕ) where
-  abbrev pub pickedBelow : ℕ → ℕ
-  pickedBelow i = cond (ltb place i) (getD l place 0) 0
-
-  pub pick-next : (i : ℕ) → cond (eqb i place) (getD l i 0) (pickedBelow i) ≡ pickedBelow (i + 1)
-  pick-next i = go (decLt place i) (ℕ-discrete i place)
-    where
-      go : Dec (place < i) → Dec (i ≡ place) → cond (eqb i place) (getD l i 0) (pickedBelow i) ≡ pickedBelow (i + 1)
-      go (yes l′) d = rw (lt-ltb place i l′, ne-eqb i place (λ e. omega arith), lt-ltb place (i + 1) (omega arith))
-      go (no l′) (yes e) = rw (eq-eqb i place e, lt-ltb place (i + 1) (omega arith)) (ap (λ (v : ℕ). getD l v 0) e)
-      go (no l′) (no ne) = rw (le-ltb place i (omega arith), ne-eqb i place ne, le-ltb place (i + 1) (omega arith))
-
-  pub pick-all : (i : ℕ) → length l ≤ i → pickedBelow i ≡ getD l place 0
-  pick-all i h = go (decLt place i)
-    where
-      go : Dec (place < i) → pickedBelow i ≡ getD l place 0
-      go (yes l′) = rw (lt-ltb place i l′)
-      go (no l′) = rw (le-ltb place i (omega arith)) (sym (List·getD-eq-default l 0 (omega arith)))
 
 module _ (l : List ℕ) (place new : ℕ) where
   abbrev pub setBelow : ℕ → List ℕ

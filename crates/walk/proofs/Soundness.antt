@@ -1,16 +1,17 @@
 -- A sound record is sound after any call, whatever it answers.
 use mathlib.Core.List.{List, [], _∷_}
 use mathlib.Core.Path.{_≡_, refl, sym, _∙_}
-use Prim.Native.Nat.{ℕ, _+_, _≤_}
+use Prim.Native.Nat.{ℕ, _+_, _-_, _≤_}
 use native.Mathlib.Omega.{arith}
 use lib.ListN.{getD, length-set}
 use Rattle.reply.specs.Reply.{Reply, served, refused, spent, after}
 use Rattle.walk.specs.declared.Walk.{Walk}
-use Rattle.walk.specs.Walks.{fullCount, drawReply, movedOn, afterDraw, setMarkReply, afterSetMark, goBackReply, afterGoBack}
+use Rattle.walk.specs.Walks.{fullCount, held, drawReply, movedOn, afterDraw, setMarkReply, afterSetMark, goBackReply, afterGoBack}
 use Rattle.walk.specs.Calls.{Call, look, draw, setMark, goBack, recordAfter, last}
 use Rattle.walk.specs.Claims.{Good, Sound}
 use Rattle.walk.proofs.Above.{set-most}
 use Rattle.walk.proofs.Looks.{good, accepted}
+use Rattle.walk.proofs.Keeping.{right-at}
 use Rattle.walk.proofs.Draws.{draw-good, draw-given}
 
 after-sound : (reply : Reply) {new old : Walk} → Sound new → Sound old → Sound (after reply new old)
@@ -29,7 +30,8 @@ module _ (walk : Walk) (sound : Sound walk) where
       go : (reply : Reply) → drawReply walk bonder ≡ reply → Sound (after reply (movedOn walk bonder) walk)
       go (served values) e =
           let given =
-          draw-given (walk .degree) (walk .position) (walk .counts) bonder (sym (draw-good walk bonder (sound .accepted)) ∙ e) in
+          draw-given (walk .degree) (walk .position) (walk .counts) bonder (held walk)
+          (sym (draw-good walk bonder (sound .accepted)) ∙ e) in
           let most = is-good .counts bonder in
           let room = given .room in
           let less : getD (walk .counts) bonder 0 + 1 ≤ fullCount = omega arith in
@@ -43,6 +45,7 @@ module _ (walk : Walk) (sound : Sound walk) where
             });
             eight-marks = sound .eight-marks;
             eight-counts = length-set (walk .counts) bonder _ ∙ sound .eight-counts;
+            right = right-at (walk .degree) (walk .position + 1) _ _;
           }
       go (refused number) e = sound
       go spent e = sound
@@ -61,6 +64,7 @@ module _ (walk : Walk) (sound : Sound walk) where
         });
         eight-marks = length-set (walk .marks) mark _ ∙ sound .eight-marks;
         eight-counts = sound .eight-counts;
+        right = record { below = sound .right .below; at-end = sound .right .at-end };
       }) sound
 
   returned-sound : (mark : ℕ) → Sound (afterGoBack walk mark)
@@ -77,6 +81,7 @@ module _ (walk : Walk) (sound : Sound walk) where
         });
         eight-marks = sound .eight-marks;
         eight-counts = sound .eight-counts;
+        right = right-at (walk .degree) (getD (walk .marks) mark 0 - 1) _ _;
       }) sound
 
   pub next-sound : (call : Call) → Sound (recordAfter call walk)

@@ -14,13 +14,15 @@ use lib.Seq.{take-all}
 use Rattle.reply.specs.Reply.{Reply, served, refused, spent, _gives_, unless, after}
 use Rattle.reply.proofs.Order.{sole-refused}
 use Rattle.poly.specs.Limits.{listLength}
+use Rattle.pairs.specs.Pairs.{entry}
 use Rattle.walk.specs.declared.Walk.{Walk}
-use Rattle.walk.specs.Walks.{fullCount, entryReply, oneMore, lookReply, drawReply, afterDraw, setMarkReply, afterSetMark}
-use Rattle.walk.specs.Walks.{goBackReply, afterGoBack}
+use Rattle.walk.specs.Walks.{nextPair, walkAt, fullCount, pairOrSpent, entryReply, bonderCause, fullCause, oneMore}
+use Rattle.walk.specs.Walks.{lookReply, drawReply, afterDraw, setMarkReply, afterSetMark, goBackReply, afterGoBack}
 use Rattle.walk.specs.Calls.{Call, look, draw, setMark, goBack, Answered, replyTo, recordAfter, answers, last, callAt, answer}
 use Rattle.walk.specs.Past.{Past, pastOf, told, allTold, expected, recordOf, pastAt}
 use Rattle.walk.specs.Claims.{Sound, Walked, NotRefused}
 use Rattle.walk.proofs.Looks.{good}
+use Rattle.walk.proofs.Keeping.{shows-entry, holding, right-next}
 use Rattle.walk.proofs.Draws.{drawnAt, Case, stranger, ended, full, pair, case}
 use Rattle.walk.proofs.Soundness.{next-sound, last-sound}
 
@@ -39,17 +41,19 @@ module _ (n : ℕ) where
       go (yes l) = ap reply (min-eq-right (le-of-lt l))
       go (no l) = let e : min L c ≡ L = omega arith in ap reply e ∙ sym (same c (omega arith))
 
-  entry-of : (c : ℕ) → entryReply n (min L c) ≡ entryReply n c
-  entry-of = at-place (entryReply n) (λ c l. rw (le-ltb c L l, le-ltb L L (le-refl L)))
+  look-at : (c : ℕ) → pairOrSpent n (min L c) (nextPair n (min L c)) ≡ entryReply n c
+  look-at c = shows-entry n (min L c) ∙ at-place (entryReply n) (λ c l. rw (le-ltb c L l, le-ltb L L (le-refl L))) c
 
-  draw-at : (given : List ℕ) (bonder c : ℕ) → drawnAt n (min L c) given bonder ≡ drawnAt n c given bonder
-  draw-at given bonder =
-      at-place (λ (c : ℕ). drawnAt n c given bonder) (λ c l. rw (le-ltb c L l, le-ltb L L (le-refl L)))
+  draw-at : (given : List ℕ) (bonder c : ℕ)
+      → drawnAt n (min L c) given bonder (nextPair n (min L c)) ≡ drawnAt n c given bonder (entry n c)
+  draw-at given bonder c =
+      ap (unless (bonderCause bonder ∷ fullCause n (min L c) given bonder ∷ [])) (shows-entry n (min L c))
+      ∙ at-place (λ (c : ℕ). drawnAt n c given bonder (entry n c)) (λ c l. rw (le-ltb c L l, le-ltb L L (le-refl L))) c
 
   -- ---- one call
   reply-of : (call : Call) (past : Past) → Sound (recordOf n past) → replyTo call (recordOf n past) ≡ expected n past call
   unfolding lookReply drawReply setMarkReply goBackReply
-  reply-of look past sound = rw (sound .accepted) (entry-of (past .place))
+  reply-of look past sound = rw (sound .accepted) (look-at (past .place))
   reply-of (draw bonder) past sound = rw (sound .accepted) (draw-at (past .given) bonder (past .place))
   reply-of (setMark mark) past sound = rw (sound .accepted)
   reply-of (goBack mark) past sound = rw (sound .accepted)
@@ -60,12 +64,12 @@ module _ (n : ℕ) where
   after-of spent new old = refl
 
   abbrev at : Past → List ℕ → ℕ → Walk
-  at past counts position = record { degree = n; position = position; marks = past .marks; counts = counts }
+  at past counts position = walkAt n position (past .marks) counts
 
   draw-of : (past : Past) (bonder : ℕ)
       → after (expected n past (draw bonder)) (at past (oneMore (past .given) bonder) (min L (past .place) + 1)) (recordOf n past)
       ≡ recordOf n (told n (draw bonder) (expected n past (draw bonder)) past)
-  draw-of past bonder = go (case n (past .place) (past .given) bonder)
+  draw-of past bonder = go (case n (past .place) (past .given) bonder (entry n (past .place)))
     where
       place : ℕ
       place = past .place
@@ -73,7 +77,7 @@ module _ (n : ℕ) where
       stays : at past (past .given) (min L place) ≡ at past (past .given) (min L (place + 0))
       stays = ap (λ (v : ℕ). at past (past .given) (min L v)) (sym (add-zero place))
 
-      go : Case n (past .place) (past .given) bonder
+      go : Case n (past .place) (past .given) bonder (entry n (past .place))
           → after (expected n past (draw bonder)) (at past (oneMore (past .given) bonder) (min L (past .place) + 1)) (recordOf n past)
           ≡ recordOf n (told n (draw bonder) (expected n past (draw bonder)) past)
       go (stranger b e) = rw e stays
@@ -134,9 +138,9 @@ module _ (n : ℕ) (past : Past) where
 
   pub refusing : (k : ℕ) (call : Call) → expected n past call ≡ refused k → Refusing k
   refusing k look e = absurd (rw e at (not-refused n (past .place)))
-  refusing k (draw bonder) e = go (case n (past .place) (past .given) bonder)
+  refusing k (draw bonder) e = go (case n (past .place) (past .given) bonder (entry n (past .place)))
     where
-      go : Case n (past .place) (past .given) bonder → Refusing k
+      go : Case n (past .place) (past .given) bonder (entry n (past .place)) → Refusing k
       go (stranger b e′) = let z = sym e′ ∙ e in let z : 20 ≡ k = cc in by-number (omega arith) (omega arith)
       go (full c e′) = let z = sym e′ ∙ e in let z : k ≡ 21 = cc in by-count bonder c z
       go (ended b l e′) = absurd (let z = sym e′ ∙ e in let z : _≡_ {A = ℕ} 0 1 = cc in omega arith)
@@ -176,8 +180,8 @@ module _ (walk : Walk) (sound : Sound walk) where
   -- a sound record is the one that its own past says
   here : recordOf n (pastOf walk) ≡ walk
   here =
-      ap (λ (v : ℕ). record { degree = n; position = v; marks = walk .marks; counts = walk .counts })
-      (min-eq-right (good walk (sound .accepted) .position))
+      ap (λ (v : ℕ). walkAt n v (walk .marks) (walk .counts)) (min-eq-right (good walk (sound .accepted) .position))
+      ∙ sym (holding n (walk .position) (walk .marks) (walk .counts) (sym (right-next walk (sound .right))))
 
   abbrev sound-here : Sound (recordOf n (pastOf walk))
   sound-here = subst Sound (sym here) sound

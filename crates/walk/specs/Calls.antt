@@ -109,3 +109,7 @@ gave (draw bonder) (refused number) = 0
 gave look reply = 0
 gave (setMark mark) reply = 0
 gave (goBack mark) reply = 0
+
+-- Calls that moved the walk: draws that gave a pair, and returns that were served.
+abbrev pub moved : Call → Reply → ℕ
+moved call reply = gave call reply + returned call reply

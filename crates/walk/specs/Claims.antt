@@ -1,5 +1,5 @@
--- What is claimed of every list of calls on a walk: looks, draws, marks set and returns in any order (demand 3; document 02, requests c
--- and g).
+-- What is claimed of every list of calls on a walk: looks, draws, marks set and returns in any order (demand 3; document 02, requests c,
+-- g and h); and of one call on any record.
 use mathlib.Core.Bool.{true, false}
 use mathlib.Core.Logic.{_↔_}
 use mathlib.Core.Path.{_≡_}
@@ -8,13 +8,14 @@ use mathlib.Core.List.{List, [], _∷_, _++_}
 use lib.ListN.{length, getD, take}
 use Rattle.reply.specs.Reply.{Reply, served, refused, spent}
 use Rattle.poly.specs.Limits.{listLength}
+use Rattle.euclid.specs.Chain.{Pair}
 use Rattle.pairs.specs.Counts.{sum}
 use Rattle.pairs.specs.Pairs.{entry}
 use Rattle.pairs.specs.Replies.{pairReply}
 use Rattle.walk.specs.declared.Walk.{Walk}
-use Rattle.walk.specs.Walks.{begun, badRecord, entryReply}
+use Rattle.walk.specs.Walks.{walkAt, begun, badRecord, entryReply, held}
 use Rattle.walk.specs.Calls.{Call, look, draw, setMark, goBack, replyTo, recordAfter, answers, last, callAt, answer, between}
-use Rattle.walk.specs.Calls.{howMany, draws, returns, sets, givenTo, gave}
+use Rattle.walk.specs.Calls.{howMany, draws, returns, sets, givenTo, gave, moved}
 use Rattle.walk.specs.Past.{pastAt, expected, recordOf}
 
 -- The records that are not refused by 3: the degree is 1 to 31, the position not above the length, no set mark beyond the length, and no
@@ -29,11 +30,17 @@ pub record Good (walk : Walk) : Type 0 where
 abbrev pub GoodClaim : Type 0
 GoodClaim = (walk : Walk) → (badRecord walk ≡ false) ↔ Good walk
 
--- Number 3 has no cause, and there are eight marks and eight counts, as every record of the program has them.
+-- The record holds the pair that stands at its position, or 0 and 0 at the list's end.
+pub record PairRight (walk : Walk) : Type 0 where
+  pub below : walk .position < listLength (walk .degree) → held walk ≡ entry (walk .degree) (walk .position)
+  pub at-end : listLength (walk .degree) ≤ walk .position → held walk ≡ record { f = 0; g = 0 }
+
+-- The pair is right, number 3 has no cause, and there are eight marks and eight counts, as every record of the program has them.
 pub record Sound (walk : Walk) : Type 0 where
   pub accepted : badRecord walk ≡ false
   pub eight-marks : length (walk .marks) ≡ 8
   pub eight-counts : length (walk .counts) ≡ 8
+  pub right : PairRight walk
 
 -- Each answer is the one that the calls and answers before it say, and never number 3; the record afterwards is sound, and the one that all
 -- of them say.
@@ -136,6 +143,64 @@ BadClaim = (walk : Walk) → badRecord walk ≡ true → (call : Call) → reply
 -- A refused call, of whatever record, changes nothing.
 abbrev pub RefusedClaim : Type 0
 RefusedClaim = (walk : Walk) (call : Call) (number : ℕ) → replyTo call walk ≡ refused number → recordAfter call walk ≡ walk
+
+-- A record made by other means, which number 3 does not refuse, is read as it is. Below the list's end, a look gives the pair that it
+-- holds, and so does a draw for one of the eight bonders whose count is below 10^18; where the count is 10^18, the draw is refused by 21.
+-- At the end both say spent, whatever the record holds.
+pub record ReadAsIs (walk : Walk) : Type 0 where
+  pub looked : walk .position < listLength (walk .degree) → replyTo look walk ≡ served (walk .f ∷ walk .g ∷ [])
+  pub drawn : (bonder : ℕ) → bonder ≤ 7 → getD (walk .counts) bonder 0 < 1000000000000000000 → walk .position < listLength (walk .degree)
+      → replyTo (draw bonder) walk ≡ served (walk .f ∷ walk .g ∷ [])
+  pub full : (bonder : ℕ) → bonder ≤ 7 → getD (walk .counts) bonder 0 ≡ 1000000000000000000 → walk .position < listLength (walk .degree)
+      → replyTo (draw bonder) walk ≡ refused 21
+  pub look-spent : walk .position ≡ listLength (walk .degree) → replyTo look walk ≡ spent
+  pub draw-spent : (bonder : ℕ) → bonder ≤ 7 → walk .position ≡ listLength (walk .degree) → replyTo (draw bonder) walk ≡ spent
+
+abbrev pub AsIsClaim : Type 0
+AsIsClaim = (walk : Walk) → Good walk → ReadAsIs walk
+
+-- Of whatever record, a draw that gives a pair and a return that is served set the pair right for the new position, whatever stood there;
+-- any other call leaves it.
+pub record SetsRight (walk : Walk) (call : Call) : Type 0 where
+  pub moving : 1 ≤ moved call (replyTo call walk) → PairRight (recordAfter call walk)
+  pub staying : moved call (replyTo call walk) ≡ 0 → held (recordAfter call walk) ≡ held walk
+
+abbrev pub SetsRightClaim : Type 0
+SetsRightClaim = (walk : Walk) (call : Call) → SetsRight walk call
+
+-- The record with the pair set right.
+abbrev pub righted : Walk → Walk
+righted walk = walkAt (walk .degree) (walk .position) (walk .marks) (walk .counts)
+
+-- A reply that gives this pair where the other gives one.
+abbrev pub otherPair : Pair → Reply → Reply
+otherPair pair (served values) = pairReply pair
+otherPair pair (refused number) = refused number
+otherPair pair spent = spent
+
+-- The reply to a call, with this pair where a look or a draw gives one.
+abbrev pub withPair : Pair → Call → Reply → Reply
+withPair pair look reply = otherPair pair reply
+withPair pair (draw bonder) reply = otherPair pair reply
+withPair pair (setMark mark) reply = reply
+withPair pair (goBack mark) reply = reply
+
+-- Whatever pair a record holds, a list of calls on it answers as on the record with the pair set right, but for that pair: until a call
+-- has moved the walk, looks and draws give the pair that the record holds, and it goes on holding it; afterwards nothing differs.
+pub record AsRighted (walk : Walk) (calls : List Call) : Type 0 where
+  pub unmoved : (i : ℕ) → i < length calls → howMany moved (take i (answers walk calls)) ≡ 0
+      → answer walk calls i ≡ withPair (held walk) (callAt calls i) (answer (righted walk) calls i)
+  pub held-on : howMany moved (answers walk calls) ≡ 0
+      → (righted (last walk calls) ≡ last (righted walk) calls) × (held (last walk calls) ≡ held walk)
+  pub moved-on : (i : ℕ) → i < length calls → 1 ≤ howMany moved (take i (answers walk calls))
+      → answer walk calls i ≡ answer (righted walk) calls i
+  pub left : 1 ≤ howMany moved (answers walk calls) → last walk calls ≡ last (righted walk) calls
+
+-- Where number 3 does not refuse the record, the other one is sound, so that all that is claimed of a list of calls holds of it.
+abbrev pub RightedClaim : Type 0
+RightedClaim =
+    (walk : Walk) → (Good walk → length (walk .marks) ≡ 8 → length (walk .counts) ≡ 8 → Sound (righted walk))
+    × ((calls : List Call) → AsRighted walk calls)
 
 -- How many draws before call i were not refused.
 abbrev pub drawsBefore : Walk → List Call → ℕ → ℕ

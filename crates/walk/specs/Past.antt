@@ -5,7 +5,7 @@ use lib.ListN.{getD, set, take}
 use Rattle.reply.specs.Reply.{Reply, served, unless, after}
 use Rattle.poly.specs.Limits.{listLength}
 use Rattle.walk.specs.declared.Walk.{Walk}
-use Rattle.walk.specs.Walks.{entryReply, bonderCause, fullCause, oneMore, markCause, emptyCause}
+use Rattle.walk.specs.Walks.{walkAt, entryReply, bonderCause, fullCause, oneMore, markCause, emptyCause}
 use Rattle.walk.specs.Calls.{Call, look, draw, setMark, goBack, Answered, answers, drew}
 
 -- Where in the list the walk is, counted on past the list's end with each draw that says spent, its marks as a record has them, and how
@@ -52,12 +52,7 @@ expected n past (goBack mark) = unless (markCause mark ∷ emptyCause (past .mar
 
 -- The record that the past says.
 abbrev pub recordOf : ℕ → Past → Walk
-recordOf n past = record {
-  degree = n;
-  position = min (listLength n) (past .place);
-  marks = past .marks;
-  counts = past .given;
-}
+recordOf n past = walkAt n (min (listLength n) (past .place)) (past .marks) (past .given)
 
 -- The past before call i of a list of calls on a record.
 abbrev pub pastAt : Walk → List Call → ℕ → Past

@@ -5,27 +5,32 @@ use poly::Count;
 use poly::Degree;
 use reply::Refusal;
 ghost use mathlib.Core.Path.{_≡_};
-ghost use mathlib.Core.Bool.{cond};
+ghost use mathlib.Core.Bool.{false, cond};
 ghost use mathlib.Core.List.{[], _∷_};
-ghost use lib.Dec.{ltb, eqb};
-ghost use lib.ListN.{getD, set};
+ghost use Prim.Native.Nat.{_≤_};
+ghost use lib.Dec.{ltb, leb, eqb};
+ghost use lib.ListN.{set};
 ghost use Rattle.reply.specs.Numbers.{numberOf};
 ghost use Rattle.reply.specs.Reply.{served, refused, _gives_, unless};
+ghost use Rattle.poly.specs.Limits.{listLength};
 ghost use Rattle.poly.specs.Replies.{checkedReply};
-ghost use Rattle.walk.specs.Walks.{begun, changeReply, startReply, started, anyAbove, recordCause, nextReply, lookReply};
-ghost use Rattle.walk.specs.Walks.{drawReply, afterDraw, setMarkReply, afterSetMark, goBackReply, afterGoBack};
+ghost use Rattle.walk.specs.Walks.{walkAt, begun, changeReply, startReply, started, anyAbove, badRecord, recordCause, nextReply};
+ghost use Rattle.walk.specs.Walks.{lookReply, drawReply, afterDraw, setMarkReply, afterSetMark, goBackReply, afterGoBack};
 
 // The highest count.
 const FULL_COUNT: u64 = 1000000000000000000;
 
-// Document 01's walk record, with document 02's eight marks and eight counts. A mark is 0 if it is empty, else the marked position plus 1;
-// a count is how many pairs its bonder was given.
+// Document 01's walk record, with document 02's eight marks, eight counts and next pair. A mark is 0 if it is empty, else the marked
+// position plus 1; a count is how many pairs its bonder was given. The next pair, f and g, is 0 and 0 when the walk is spent; in a record
+// that was not reached from a start by calls alone it may be anything, until a draw gives a pair or a return is served.
 #[repr(C)]
 pub struct Walk {
     pub degree: u32,
     pub position: u64,
     pub marks: [u64; 8],
     pub counts: [u64; 8],
+    pub f: u32,
+    pub g: u32,
 }
 
 // What a call that gives no values answers.
@@ -69,15 +74,47 @@ pub fn start(n: u32) -> Changed
     }
 }
 
-// A record at the start of a list.
+// A record at the start of a list. The first pair of each list that has one is x^n + x + 1 and x^n + 1.
 fn begun(n: u32) -> Walk
+    requires { ⌜ n ≤ 31 ⌝ }
     ensures { λ r. ⌜ r ≡ begun n ⌝ }
 {
-    Walk {
+    let mut walk = Walk {
         degree: n,
         position: 0,
         marks: [0; 8],
         counts: [0; 8],
+        f: 0,
+        g: 0,
+    };
+    if 2 <= n {
+        let power = 1u32 << n;
+        walk.f = power + 3;
+        walk.g = power + 1;
+    }
+    walk
+}
+
+// A record at a position, with the next pair worked out.
+fn walk_at(n: u32, position: u64, marks: [u64; 8], counts: [u64; 8]) -> Walk
+    requires { ⌜ n ≤ 31 ⌝ }
+    ensures { λ r. ⌜ r ≡ walkAt n position marks counts ⌝ }
+{
+    let mut walk = Walk {
+        degree: n,
+        position,
+        marks,
+        counts,
+        f: 0,
+        g: 0,
+    };
+    match pairs::pair_at(n, position) {
+        Found::Refused(_) => walk,
+        Found::Codes(f, g) => {
+            walk.f = f;
+            walk.g = g;
+            walk
+        }
     }
 }
 
@@ -104,21 +141,8 @@ fn chosen(i: u32, place: u32, new: u64, old: u64) -> u64
     old
 }
 
-// The number at a place; 0 behind the eighth. All places are tried, so that the array stays in registers: read at an index that is not a
+// The numbers with one of them replaced. All places are tried, so that the array stays in registers: written at an index that is not a
 // constant, it would have to be copied to memory first.
-fn picked(numbers: [u64; 8], place: u32) -> u64
-    ensures { λ r. ⌜ r ≡ getD numbers place 0 ⌝ }
-{
-    let mut number = 0;
-    let mut i: u32 = 0;
-    while i < 8 {
-        number = chosen(i, place, numbers[i as usize], number);
-        i += 1;
-    }
-    number
-}
-
-// The numbers with one of them replaced; all places are tried, for the same reason.
 fn replaced(numbers: [u64; 8], place: u32, new: u64) -> [u64; 8]
     ensures { λ r. ⌜ r ≡ set numbers place new ⌝ }
 {
@@ -153,19 +177,31 @@ impl Walk {
         }
     }
 
-    // The pair at the record's position; spent at the list's end.
+    // Whether a good record is at the list's end.
+    fn at_end(self) -> bool
+        requires { ⌜ badRecord self ≡ false ⌝ }
+        ensures { λ r. ⌜ r ≡ leb (listLength (self .degree)) (self .position) ⌝ }
+    {
+        let n = self.degree;
+        match (Degree { n }).list_length() {
+            // A good record has a list.
+            Count::Refused(_) => true,
+            Count::Is(length) => length <= self.position,
+        }
+    }
+
+    // The pair that the record holds; spent at the list's end.
     pub fn look(self) -> Next
         ensures { λ r. ⌜ nextReply r ≡ lookReply self ⌝ }
     {
-        let n = self.degree;
-        let position = self.position;
         match self.checked() {
             Checked::Refused(refusal) => Next::Refused(refusal),
-            // At the position of a good record there is a pair, or the list's end.
-            Checked::Passed => match pairs::pair_at(n, position) {
-                Found::Codes(f, g) => Next::Codes(f, g),
-                Found::Refused(_) => Next::Spent,
-            },
+            Checked::Passed => {
+                if self.at_end() {
+                    return Next::Spent;
+                }
+                Next::Codes(self.f, self.g)
+            }
         }
     }
 
@@ -191,32 +227,29 @@ impl Walk {
         Drawn { answer, walk: self }
     }
 
-    // The pair at the record's position, for a bonder; where it gives one, the record is moved on by one, and the bonder's count is raised.
+    // The pair that the record holds, for a bonder. Where it gives one, the record is moved on by one, the bonder's count is raised, and
+    // the next pair is worked out.
     pub fn drawn(self, bonder: u32) -> Drawn
         ensures { λ r. ⌜ (nextReply (r .answer) ≡ drawReply self bonder) × (r .walk ≡ afterDraw self bonder) ⌝ }
     {
-        let n = self.degree;
-        let position = self.position;
         match self.checked_number(bonder, Refusal::BonderRange) {
             Checked::Refused(refusal) => self.unmoved(Next::Refused(refusal)),
-            Checked::Passed => match pairs::pair_at(n, position) {
-                Found::Refused(_) => self.unmoved(Next::Spent),
-                Found::Codes(f, g) => {
-                    let counts = self.counts;
-                    let count = counts[bonder as usize];
-                    if count == FULL_COUNT {
-                        return self.unmoved(Next::Refused(Refusal::BonderFull));
-                    }
-                    let after = replaced(counts, bonder, count + 1);
-                    let mut walk = self;
-                    walk.position = position + 1;
-                    walk.counts = after;
-                    Drawn {
-                        answer: Next::Codes(f, g),
-                        walk,
-                    }
+            Checked::Passed => {
+                if self.at_end() {
+                    return self.unmoved(Next::Spent);
                 }
-            },
+                let counts = self.counts;
+                let count = counts[bonder as usize];
+                if count == FULL_COUNT {
+                    return self.unmoved(Next::Refused(Refusal::BonderFull));
+                }
+                let marks = self.marks;
+                let after = replaced(counts, bonder, count + 1);
+                Drawn {
+                    answer: Next::Codes(self.f, self.g),
+                    walk: walk_at(self.degree, self.position + 1, marks, after),
+                }
+            }
         }
     }
 
@@ -250,7 +283,7 @@ impl Walk {
         }
     }
 
-    // Takes up the position of a mark.
+    // Takes up the position of a mark, and works out the next pair there.
     pub fn go_back(self, mark: u32) -> Changed
         ensures { λ r. ⌜ (changeReply (r .answer) ≡ goBackReply self mark) × (r .walk ≡ afterGoBack self mark) ⌝ }
     {
@@ -258,16 +291,14 @@ impl Walk {
             Checked::Refused(refusal) => self.refused(refusal),
             Checked::Passed => {
                 let marks = self.marks;
-                let stored = picked(marks, mark);
+                let stored = marks[mark as usize];
                 if stored == 0 {
                     return self.refused(Refusal::MarkEmpty);
                 }
-                let position = stored - 1;
-                let mut walk = self;
-                walk.position = position;
+                let counts = self.counts;
                 Changed {
                     answer: Change::Done,
-                    walk,
+                    walk: walk_at(self.degree, stored - 1, marks, counts),
                 }
             }
         }

@@ -75,6 +75,12 @@ module _ (r : Outcome) (v : Val) (is : Is D.the-row r (v ∷ [])) where
   pub is-counts : Is (Array u64 8) (countsIn r) (eight-vals (countsIn r))
   is-counts = LL.owed T.the-type T′.the-laws (r .walk) (val (r .walk) ∷ []) is-walk .1 .1 .1 .0
 
+  pub is-f : Is u32 (r .walk .f) (vint w32 (r .walk .f) ∷ [])
+  is-f = LL.owed T.the-type T′.the-laws (r .walk) (val (r .walk) ∷ []) is-walk .1 .1 .1 .1 .0
+
+  pub is-g : Is u32 (r .walk .g) (vint w32 (r .walk .g) ∷ [])
+  is-g = LL.owed T.the-type T′.the-laws (r .walk) (val (r .walk) ∷ []) is-walk .1 .1 .1 .1 .1 .0
+
 -- where a reference points
 abbrev pub to : {X : Type 0} → RefT X → Val
 to x = vptr (x .ptr .0) (x .ptr .1)

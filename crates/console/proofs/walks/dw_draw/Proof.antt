@@ -1,6 +1,6 @@
 -- `dw_draw` meets its contract: the record is copied out of its borrow and handed to `drawn` with the bonder and the two pointers, and
--- where that returns 0, the position and the counts of the record that came with it are stored; otherwise the borrow stays shut. All that
--- is known of `drawn` is its contract, by which it changes nothing else.
+-- where that returns 0, all fields of the record that came with it are stored but the degree and the marks; otherwise the borrow stays
+-- shut. All that is known of `drawn` is its contract, by which it changes neither.
 use mathlib.Core.Path.{refl}
 use Prim.Native.Nat.{ℕ, _^_, _<_}
 use mathlib.Core.List.{List, [], _∷_, _++_}
@@ -59,15 +59,16 @@ use Rattle.console.proofs.walks.dw_draw.Statement as stated
 use Rattle.console.proofs.walks.dw_draw.Code as code
 use Rattle.console.proofs.walks.dw_draw.Code.Mir as steps
 use Rattle.console.proofs.Told.{moved, draw-moved, draw-unserved}
-use Rattle.console.proofs.walks.Lent.{val, outcome, countsIn, eight-vals, is-status, is-position, is-counts, to, lent}
+use Rattle.console.proofs.walks.Lent.{val, outcome, countsIn, eight-vals, is-status, is-position, is-counts, is-f, is-g, to, lent}
 use Rattle.console.proofs.walks.Lent.{opened, closed, Pair, tokens, ends, meets}
 
--- the record with another position and other counts
+-- the record with another position, other counts and another pair
 is-moved : (h : Walk) → Is T.the-row h (val h ∷ []) → (r : Outcome) (v : Val) → Is D.the-row r (v ∷ [])
     → Is T.the-row (moved h (r .walk)) (val (moved h (r .walk)) ∷ [])
 is-moved h was r v is =
     let parts = LL.owed T.the-type T′.the-laws h (val h ∷ []) was in
-    LL.owes T.the-type T′.the-laws (moved h (r .walk)) (parts .0, (is-position r v is, (parts .1 .1 .0, (is-counts r v is, tt))))
+    LL.owes T.the-type T′.the-laws (moved h (r .walk))
+    (parts .0, (is-position r v is, (parts .1 .1 .0, (is-counts r v is, (is-f r v is, (is-g r v is, tt))))))
 
 -- the walk's borrow is kept; the two pointers' borrows are given to the callee
 abbrev stayed : Stays (draw.ended .signature .params) (draw.ended .kept)
@@ -217,11 +218,19 @@ module _ {M : Type 1} (𝓤 : URA M) (H : Heap 𝓤) (A : Atoms 𝓤) (W : Given
         (of-opd ! (load ! (from ! (fld ! refl (fld ! refl (stop !)))) (look-in ! 12 (sub ! 1 refl (sub ! 1 refl (whole !))))))
         (from ! (hop ! (look ! 22 refl) (fld ! refl (stop !))))
         (store-in ! 0 (sub ! 1 refl (whole !)) (tt, record { fits = is-position r v is .1 })) $
-        assigns-last !
+        assigns !
         (of-opd ! (load ! (from ! (fld ! refl (fld ! refl (stop !)))) (look-in ! 12 (sub ! 3 refl (sub ! 1 refl (whole !))))))
         (from ! (hop ! (look ! 22 refl) (fld ! refl (stop !))))
         (store-in ! 0 (sub ! 3 refl (whole !))
         (array-lawful 𝓤 H A W u64 (uint-lawful 𝓤 H A W w64) 8 .typed (countsIn r) (eight-vals (countsIn r)) (is-counts r v is) .0)) $
+        assigns !
+        (of-opd ! (load ! (from ! (fld ! refl (fld ! refl (stop !)))) (look-in ! 12 (sub ! 4 refl (sub ! 1 refl (whole !))))))
+        (from ! (hop ! (look ! 22 refl) (fld ! refl (stop !))))
+        (store-in ! 0 (sub ! 4 refl (whole !)) (tt, record { fits = is-f r v is .1 })) $
+        assigns-last !
+        (of-opd ! (load ! (from ! (fld ! refl (fld ! refl (stop !)))) (look-in ! 12 (sub ! 5 refl (sub ! 1 refl (whole !))))))
+        (from ! (hop ! (look ! 22 refl) (fld ! refl (stop !))))
+        (store-in ! 0 (sub ! 5 refl (whole !)) (tt, record { fits = is-g r v is .1 })) $
         exec ! C Λ (E l₀ l₁ l₂ l₃ l₄ l₅ l₆ l₇ l₈ l₉) steps.t-7 (atRet (E l₀ l₁ l₂ l₃ l₄ l₅ l₆ l₇ l₈ l₉) Post) $
         closed ! tt xw (moved h (r .walk)) (is-moved h was r v is) $
         leaves l₀ l₁ l₂ l₃ l₄ l₅ l₆ l₇ l₈ l₉ (moved h (r .walk)) (zs .1 .1 .0) (zs .1 .1 .1 .0) r (draw-moved e) (is-status r v is)))

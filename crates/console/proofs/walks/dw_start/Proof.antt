@@ -59,7 +59,7 @@ use Rattle.console.proofs.walks.dw_start.Code as code
 use Rattle.console.proofs.walks.dw_start.Code.Mir as steps
 use Rattle.console.proofs.Told.{start-served, start-refused}
 use Rattle.console.proofs.walks.Lent.{outcome, marksIn, countsIn, eight-vals, is-status, is-walk, is-degree, is-position}
-use Rattle.console.proofs.walks.Lent.{is-marks, is-counts, to, lent, opened, closed, meets}
+use Rattle.console.proofs.walks.Lent.{is-marks, is-counts, is-f, is-g, to, lent, opened, closed, meets}
 
 abbrev stayed : Stays (start.ended .signature .params) (start.ended .kept)
 stayed = (stay-none (λ _. u32) yes, (stay-ref (0 ∷ []) tt (plain (λ _. T.the-row)), tt))
@@ -167,10 +167,16 @@ module _ {M : Type 1} (𝓤 : URA M) (H : Heap 𝓤) (A : Atoms 𝓤) (W : Given
         (from ! (hop ! (look ! 8 refl) (fld ! refl (stop !))))
         (store-in ! 0 (sub ! 2 refl (whole !))
         (array-lawful 𝓤 H A W u64 (uint-lawful 𝓤 H A W w64) 8 .typed (marksIn r) (eight-vals (marksIn r)) (is-marks r v is) .0)) $
-        assigns-last ! (of-opd ! (load ! (from ! (fld ! refl (fld ! refl (stop !)))) (look-in ! 6 (sub ! 3 refl (sub ! 1 refl (whole !))))))
+        assigns ! (of-opd ! (load ! (from ! (fld ! refl (fld ! refl (stop !)))) (look-in ! 6 (sub ! 3 refl (sub ! 1 refl (whole !))))))
         (from ! (hop ! (look ! 8 refl) (fld ! refl (stop !))))
         (store-in ! 0 (sub ! 3 refl (whole !))
         (array-lawful 𝓤 H A W u64 (uint-lawful 𝓤 H A W w64) 8 .typed (countsIn r) (eight-vals (countsIn r)) (is-counts r v is) .0)) $
+        assigns ! (of-opd ! (load ! (from ! (fld ! refl (fld ! refl (stop !)))) (look-in ! 6 (sub ! 4 refl (sub ! 1 refl (whole !))))))
+        (from ! (hop ! (look ! 8 refl) (fld ! refl (stop !))))
+        (store-in ! 0 (sub ! 4 refl (whole !)) (tt, record { fits = is-f r v is .1 })) $
+        assigns-last ! (of-opd ! (load ! (from ! (fld ! refl (fld ! refl (stop !)))) (look-in ! 6 (sub ! 5 refl (sub ! 1 refl (whole !))))))
+        (from ! (hop ! (look ! 8 refl) (fld ! refl (stop !))))
+        (store-in ! 0 (sub ! 5 refl (whole !)) (tt, record { fits = is-g r v is .1 })) $
         exec ! C Λ (E l₀ l₁ l₂ l₃ l₄) steps.t-4 (atRet (E l₀ l₁ l₂ l₃ l₄) Post) $
         closed ! tt xw (r .walk) (is-walk r v is) $
         leaves l₀ l₁ l₂ l₃ l₄ (r .walk) r (start-served n h e t) (is-status r v is)))
