@@ -1,0 +1,4 @@
+pub mod Loops
+pub mod Entries
+pub mod Members
+pub mod Rising
