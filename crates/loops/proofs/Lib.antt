@@ -1,3 +1,4 @@
+pub mod Examples
 pub mod Loops
 pub mod Entries
 pub mod Members
