@@ -64,7 +64,7 @@ enum {
     DW_SERVED = 0,
     /* Caused by the console. */
     DW_REFUSED_DEGREE_RANGE = 1,    /* degree outside 1 to 31 */
-    DW_REFUSED_POSITION_RANGE = 2,  /* position not below the length of the list of pairs; for dw_unordered_pair_at, entry not below half */
+    DW_REFUSED_POSITION_RANGE = 2,  /* position not below the length of the list of pairs; for dw_unordered_pair_at, not below half of it */
     DW_REFUSED_WALK_RECORD = 3,     /* walk record: degree outside 1 to 31, position or set mark beyond the length, count above 10^18 */
     DW_REFUSED_SLICE_LENGTH = 4,    /* memory too short for the results; for dw_write also a list of levels not of length 2^n */
     DW_REFUSED_SITE_RANGE = 5,      /* row or column not below 2^n */
