@@ -37,7 +37,7 @@ typedef struct Trial {
 
 /* What a call answers, and the memory that it is lent, which both sides have at the same place of a cache line. */
 typedef struct Answer {
-    uint32_t status, degree, codes[2], next[2], divisor, quotients[DW_CHAIN_ROOM];
+    uint32_t status, degree, codes[3], next[2], divisor, quotients[DW_CHAIN_ROOM];
     uint64_t position, positions, marks[DW_MARKS], counts[DW_BONDERS];
     size_t count, offset;
     _Alignas(64) uint16_t powers[DW_LEVELS_ROOM], forces[DW_LEVELS_ROOM];
@@ -94,6 +94,13 @@ static void prepare_rising(void)
         inputs[i].position = (length / 2 + i) % length;
 }
 
+/* Random positions of the list of triples. */
+static void prepare_triples(void)
+{
+    for (size_t i = 0; i < INPUTS; i++)
+        inputs[i].position = random_below(plain_all_triples[degree]);
+}
+
 /* Two random odd codes, with or without a common factor. */
 static void prepare_codes(void)
 {
@@ -144,6 +151,7 @@ static void prepare_shuffled(void)
 static uint32_t (*const pair_at[SIDES])(uint32_t, uint64_t, uint32_t *, uint32_t *) = {dw_pair_at, plain_pair_at};
 static uint32_t (*const unordered_pair_at[SIDES])(uint32_t, uint64_t, uint32_t *, uint32_t *) = {dw_unordered_pair_at,
                                                                                                plain_unordered_pair_at};
+static uint32_t (*const triple_at[SIDES])(uint32_t, uint64_t, uint32_t *, uint32_t *, uint32_t *) = {dw_triple_at, plain_triple_at};
 static uint32_t (*const position_of[SIDES])(uint32_t, uint32_t, uint32_t, uint64_t *) = {dw_position_of, plain_position_of};
 static uint32_t (*const chain[SIDES])(uint32_t, uint32_t, uint32_t, uint32_t *, size_t, size_t *, uint32_t *) = {dw_chain, plain_chain};
 static uint32_t (*const longest_chains[SIDES])(uint32_t, uint64_t *, uint64_t *) = {dw_longest_chains, plain_longest_chains};
@@ -180,6 +188,13 @@ static void run_doubled(int side, size_t from, size_t to)
     for (size_t i = from; i < to; i++)
         a->status = side == LIBRARY ? dw_unordered_pair_at(degree, inputs[i].position / 2, &a->codes[0], &a->codes[1])
                                     : dw_pair_at(degree, inputs[i].position / 2 * 2, &a->codes[0], &a->codes[1]);
+}
+
+static void run_triple_at(int side, size_t from, size_t to)
+{
+    Answer *a = &answers[side];
+    for (size_t i = from; i < to; i++)
+        a->status = triple_at[side](degree, inputs[i].position, &a->codes[0], &a->codes[1], &a->codes[2]);
 }
 
 static void run_position_of(int side, size_t from, size_t to)
@@ -353,6 +368,7 @@ static const Job jobs[] = {
     {"set mark", prepare_random, run_set_mark, INPUTS, 0, GOAL},
     {"go back", prepare_random, run_go_back, INPUTS, 0, GOAL},
     {"site", prepare_random, run_site, INPUTS, 0, GOAL},
+    {"triple at, random", prepare_triples, run_triple_at, INPUTS, 1, GOAL},
     {"sheet", prepare_random, run_sheet, TRIALS, 1, GOAL},
     {"read", prepare_trials, run_read, TRIALS, 1, GOAL},
     {"write", prepare_trials, run_write, TRIALS, 1, GOAL},
@@ -561,19 +577,20 @@ static void show_goal(const char *what, double value, double limit)
 
 static const uint32_t degrees[] = {4, LIST_DEGREE, 21, 31};
 
-/* What is kept of a job's lines: the worst ratio and the widest spread. */
+/* What is kept of a job's lines: the worst ratio, the widest spread and the library's longest time. */
 typedef struct Summary {
-    double worst, spread;
+    double worst, spread, longest;
 } Summary;
 
 /* A job at all of its degrees. */
 static Summary show_job(const Job *job)
 {
-    Summary s = {0, 0};
+    Summary s = {0, 0, 0};
     for (int i = 0; i < (job->sheets ? 1 : 4); i++) {
         Line line = show_line(job, job->sheets ? SHEET_DEGREE : degrees[i]);
         s.worst = line.ratio > s.worst ? line.ratio : s.worst;
         s.spread = line.spread > s.spread ? line.spread : s.spread;
+        s.longest = line.library > s.longest ? line.library : s.longest;
     }
     return s;
 }
@@ -633,6 +650,15 @@ static void show_lists(void)
     printf("\nMedians of %d rounds.\n", LIST_ROUNDS);
 }
 
+/* The library's longest time for a job. */
+static double longest_of(const Summary *summaries, void (*run)(int, size_t, size_t))
+{
+    int job = 0;
+    while (jobs[job].run != run)
+        job++;
+    return summaries[job].longest;
+}
+
 static void show_goals(const Summary *summaries, double beyond, Kept kept)
 {
     printf("\nThe worst ratio of each job, and its goal:\n\n");
@@ -640,6 +666,8 @@ static void show_goals(const Summary *summaries, double beyond, Kept kept)
         show_goal(jobs[job].name, summaries[job].worst, jobs[job].goal);
     printf("\nAn entry of the second list, in nanoseconds beyond the pair call:\n\n");
     show_goal("worst degree", beyond, 3);
+    printf("\nA triple at a random position, in nanoseconds:\n\n");
+    show_goal("degree 6", longest_of(summaries, run_triple_at), 110);
     printf("\nA look, in nanoseconds; and eight looks to the pair call, at degree 31:\n\n");
     show_goal("worst degree", kept.most, 12);
     show_goal("ratio", 8 * kept.part, 1);

@@ -19,6 +19,9 @@ static uint32_t plain_compositions[32][32];      /* of n into k parts */
 static uint64_t plain_words[32][PLAIN_STATES];   /* words of so many letters that lead from a state to (1,0) */
 static uint64_t plain_zeros[32][PLAIN_STATES];   /* of those with one letter more, how many begin with 0 */
 static uint64_t plain_first[32][34];             /* by degree n and k: the position of the first pair of k quotients; n + 1: the length */
+static uint32_t plain_coprimes[64];              /* by half a code of degree n, rounded down: bit k is 1 if 2^n + 2k + 1 is coprime to it */
+static uint32_t plain_triples[64];               /* by the same half: triples that begin with the code */
+static uint32_t plain_all_triples[7];            /* by degree: all triples */
 
 /* Row m of the tables, from the row before it. */
 static void plain_row(uint32_t m)
@@ -34,11 +37,12 @@ static void plain_row(uint32_t m)
         plain_first[m][k + 1] = plain_first[m][k] + ((plain_compositions[m][k] * plain_words[k][PLAIN_10]) << (m - k));
 }
 
-/* Fills the tables. */
-static void plain_tables(void)
+/* How many bits are 1, by sums of neighbours: plain x86-64 has no instruction for it, and the compiler would call a function. */
+static inline uint32_t plain_ones(uint32_t bits)
 {
-    for (uint32_t m = 0; m < 32; m++)
-        plain_row(m);
+    bits -= bits >> 1 & 0x55555555;
+    bits = (bits & 0x33333333) + (bits >> 2 & 0x33333333);
+    return ((bits + (bits >> 4)) & 0x0f0f0f0f) * 0x01010101 >> 24;
 }
 
 /* The degree of a code that is not 0. */
@@ -82,6 +86,29 @@ static inline int plain_coprime(uint32_t f, uint32_t g)
         g = rest;
     }
     return g == 1;
+}
+
+/* The tables of triples at degree n, by Euclid's algorithm on every two codes. */
+static void plain_triple_row(uint32_t n)
+{
+    uint32_t first = 1u << (n - 1);
+    for (uint32_t f = first; f < 2 * first; f++)
+        for (uint32_t g = first; g < 2 * first; g++)
+            plain_coprimes[f] |= (uint32_t)plain_coprime(2 * f + 1, 2 * g + 1) << (g - first);
+    for (uint32_t f = first; f < 2 * first; f++) {
+        for (uint32_t left = plain_coprimes[f]; left != 0; left &= left - 1)
+            plain_triples[f] += plain_ones(plain_coprimes[f] & plain_coprimes[first + (uint32_t)__builtin_ctz(left)]);
+        plain_all_triples[n] += plain_triples[f];
+    }
+}
+
+/* Fills the tables. */
+static void plain_tables(void)
+{
+    for (uint32_t m = 0; m < 32; m++)
+        plain_row(m);
+    for (uint32_t n = 2; n < 7; n++)
+        plain_triple_row(n);
 }
 
 /* Euclid's quotients, and how many; the last divisor goes to *divisor. */
@@ -196,6 +223,33 @@ PLAIN_CALL plain_unordered_pair_at(uint32_t n, uint64_t entry, uint32_t *f, uint
     if (entry >= plain_first[n][n + 1] / 2)
         return DW_REFUSED_POSITION_RANGE;
     plain_pair(n, 2 * entry, f, g);
+    return DW_SERVED;
+}
+
+/* Passes over all triples of one f after the other, then of one g after the other that is coprime to it, then over single ones. */
+PLAIN_CALL plain_triple_at(uint32_t n, uint64_t position, uint32_t *f, uint32_t *g, uint32_t *h)
+{
+    if (n < 2 || n > 6)
+        return DW_REFUSED_SHEET_DEGREE;
+    if (position >= plain_all_triples[n])
+        return DW_SPENT;
+    uint32_t first = 1u << (n - 1), half = first, rest = (uint32_t)position;
+    while (plain_triples[half] <= rest)
+        rest -= plain_triples[half++];
+    uint32_t row = plain_coprimes[half], left = row, other, common, count;
+    for (;; left &= left - 1) {
+        other = first + (uint32_t)__builtin_ctz(left);
+        common = row & plain_coprimes[other];
+        count = plain_ones(common);
+        if (rest < count)
+            break;
+        rest -= count;
+    }
+    for (; rest > 0; rest--)
+        common &= common - 1;
+    *f = 2 * half + 1;
+    *g = 2 * other + 1;
+    *h = 2 * (first + (uint32_t)__builtin_ctz(common)) + 1;
     return DW_SERVED;
 }
 

@@ -1,5 +1,5 @@
 /*
- * Dinnowell: coprime pairs of binary polynomials, crossed squares, sheets and trial files for bonding trials.
+ * Dinnowell: coprime pairs and triples of binary polynomials, crossed squares, sheets and trial files for bonding trials.
  *
  * WHAT IT SPEAKS OF; docs/SCOPE.md has all of it in full.
  * A polynomial with coefficients 0 and 1 is a code: bit j is the coefficient of x^j, so 11 is x^3 + x + 1. Its degree is the highest power
@@ -7,6 +7,8 @@
  * they are coprime.
  * The list of degree n holds every ordered pair (f, g) of coprime codes of degree n whose constant terms are both one, each pair once. It
  * has 2(4^(n-1) - 1)/3 pairs, in an order that docs/SCOPE.md sets out under "The list".
+ * The list of triples of degree n, for n from 2 to 6, holds every ordered triple (f, g, h) of codes of degree n whose constant terms are
+ * all one and of which each two are coprime, each triple once, in rising order of f, then g, then h.
  * The square of a code of degree n has 2^n rows and 2^n columns, and at each site, which is a row and a column, a symbol below 2^n. Write
  * the n bits of the row and then the n bits of the column, each highest first, as cells 0 to 2n - 1. Then, for i from 0 to n - 1, bit
  * n - 1 - i of the symbol is 1 if an odd number of the cells i + j are 1, over all j from 0 to n for which bit j of the code is 1. Laid
@@ -39,7 +41,7 @@
 
 /* The version of this interface. MAJOR grows where a caller may have to change, MINOR where something is added. */
 #define DW_VERSION_MAJOR 5
-#define DW_VERSION_MINOR 0
+#define DW_VERSION_MINOR 1
 #define DW_VERSION (1000 * DW_VERSION_MAJOR + DW_VERSION_MINOR)
 
 /*
@@ -62,7 +64,7 @@ enum {
     DW_SERVED = 0,
     /* Caused by the console. */
     DW_REFUSED_DEGREE_RANGE = 1,    /* degree outside 1 to 31 */
-    DW_REFUSED_POSITION_RANGE = 2,  /* position not below the list's length; for dw_unordered_pair_at, entry not below half of that */
+    DW_REFUSED_POSITION_RANGE = 2,  /* position not below the length of the list of pairs; for dw_unordered_pair_at, not below half of it */
     DW_REFUSED_WALK_RECORD = 3,     /* walk record: degree outside 1 to 31, position or set mark beyond the length, count above 10^18 */
     DW_REFUSED_SLICE_LENGTH = 4,    /* memory too short for the results; for dw_write also a list of levels not of length 2^n */
     DW_REFUSED_SITE_RANGE = 5,      /* row or column not below 2^n */
@@ -74,7 +76,7 @@ enum {
     DW_REFUSED_FILE_ENDS = 9,       /* file ends inside a number or the name, or before a field */
     DW_REFUSED_NUMBER_FORM = 10,    /* number longer than five bytes, above 4294967295, or with a needless last byte 0 */
     DW_REFUSED_VERSION = 11,        /* version not 1 */
-    DW_REFUSED_SHEET_DEGREE = 12,   /* degree of a sheet or a file outside 2 to 6 */
+    DW_REFUSED_SHEET_DEGREE = 12,   /* degree outside 2 to 6, of a trial file, a sheet or the list of triples */
     DW_REFUSED_LEVEL_RANGE = 13,    /* level above 65535; dw_read alone can meet one */
     DW_REFUSED_LEVEL_REPEATED = 14, /* level equal to an earlier one of its list */
     DW_REFUSED_NAME_LENGTH = 15,    /* name longer than 40 bytes */
@@ -85,7 +87,7 @@ enum {
     DW_REFUSED_MARK_EMPTY = 19,     /* going back to an empty mark */
     DW_REFUSED_BONDER_RANGE = 20,   /* bonder above 7 */
     DW_REFUSED_BONDER_FULL = 21,    /* the bonder's count is DW_FULL_COUNT, and a pair is there to give */
-    /* No refusal: a walk is at the end of its list. */
+    /* No refusal: a walk is at the end of its list, or a position is not below the number of triples. */
     DW_SPENT = 255
 };
 
@@ -189,6 +191,17 @@ uint32_t dw_position_of(uint32_t n, uint32_t f, uint32_t g, uint64_t *position);
  */
 DW_MUST_CHECK
 uint32_t dw_unordered_pair_at(uint32_t n, uint64_t entry, uint32_t *f, uint32_t *g);
+
+/*
+ * The triple at a position of the list of triples of degree n. The lists of degrees 2 to 6 have 0, 12, 150, 1380 and 11574 triples; the
+ * first of degree 3 is (9, 11, 13). The six orders of three codes are six triples. Each two codes of a triple are a pair of the list of
+ * degree n, in either order. To go through a whole list, raise position by one from 0 on until DW_SPENT is returned.
+ * Served: *f, *g and *h are its codes.
+ * Refused: SHEET_DEGREE.
+ * DW_SPENT: position is not below the number of triples; at degree 2, whose list is empty, whatever position is.
+ */
+DW_MUST_CHECK
+uint32_t dw_triple_at(uint32_t n, uint64_t position, uint32_t *f, uint32_t *g, uint32_t *h);
 
 /*
  * The quotients of Euclid's algorithm on the codes f and g of degree n: f is divided by g, then each divisor by its remainder, until that

@@ -23,7 +23,7 @@ CHECK(DW_REFUSED_LEVEL_RANGE == 13 && DW_REFUSED_LEVEL_REPEATED == 14 && DW_REFU
 CHECK(DW_REFUSED_TRAILING_BYTES == 17 && DW_REFUSED_MARK_RANGE == 18 && DW_REFUSED_MARK_EMPTY == 19 && DW_REFUSED_BONDER_RANGE == 20);
 CHECK(DW_REFUSED_BONDER_FULL == 21 && DW_MARKS == 8 && DW_BONDERS == 8 && DW_FULL_COUNT == UINT64_C(1000000000000000000));
 CHECK(DW_CHAIN_ROOM == 32 && DW_LEVELS_ROOM == 64 && DW_SHEET_ROOM == 8192 && DW_FILE_ROOM == 429 && DW_NAME_ROOM == 40);
-CHECK(DW_STACK_ROOM == 8192 && DW_VERSION_MAJOR == 5 && DW_VERSION_MINOR == 0 && DW_VERSION == 5000);
+CHECK(DW_STACK_ROOM == 8192 && DW_VERSION_MAJOR == 5 && DW_VERSION_MINOR == 1 && DW_VERSION == 5001);
 
 enum { SEED = 20261115, GUARD = 64, LARGEST = 1 << 14, SLOTS = 16 };
 
@@ -191,6 +191,28 @@ static void try_unordered_pair_at(void)
     count(dw_unordered_pair_at(n, entry, to_f, to_g), want, "dw_unordered_pair_at");
     came_u32(0, want, f, "dw_unordered_pair_at: f");
     came_u32(1, want, g, "dw_unordered_pair_at: g");
+}
+
+/* How many triples each degree has. */
+static const uint64_t triples[7] = { 0, 0, 0, 12, 150, 1380, 11574 };
+
+/* The triple at a position, whatever the call is given; gives what it answers, and where it is served the codes. */
+static uint32_t triple_at(uint32_t n, uint64_t position, uint32_t codes[3])
+{
+    uint32_t want = ref_triple(n, position, codes);
+    uint32_t *to_f = lend_u32(0), *to_g = lend_u32(1), *to_h = lend_u32(2);
+    count(dw_triple_at(n, position, to_f, to_g, to_h), want, "dw_triple_at");
+    came_u32(0, want, codes[0], "dw_triple_at: f");
+    came_u32(1, want, codes[1], "dw_triple_at: g");
+    came_u32(2, want, codes[2], "dw_triple_at: h");
+    return want;
+}
+
+static void try_triple_at(void)
+{
+    uint32_t n = some_degree(2, 6), codes[3] = { 0 };
+    uint64_t entries = n > 6 ? 0 : triples[n];
+    triple_at(n, entries && draw(16) ? draw64() % entries : draw(4) ? entries + draw(2) : draw64(), codes);
 }
 
 static void try_pairs_from(void)
@@ -721,6 +743,38 @@ static void second_lists(void)
     }
 }
 
+/* Every triple of every degree. Each two of its codes have a position in the list, in either order; sheets are made of some. Then positions
+ * that are spent and degrees that are refused, at several positions, among them some whose lower bits alone are those of a good one. */
+static void whole_triples(void)
+{
+    static const int two[3][2] = { { 0, 1 }, { 0, 2 }, { 1, 2 } };
+    static const uint32_t outside[] = { 0, 1, 7, 31, 32, 35, 259, UINT32_MAX };
+    static uint8_t sheet[DW_SHEET_ROOM];
+    const uint64_t half = UINT64_C(1) << 32, top = UINT64_C(1) << 63;
+    uint32_t codes[3] = { 0 };
+    uint64_t place;
+    for (uint32_t n = 2; n <= 6; n++) {
+        for (uint64_t position = 0; position < triples[n]; position++) {
+            expect(triple_at(n, position, codes) == 0, "triples: served");
+            for (int i = 0; i < 3; i++) {
+                uint32_t one = codes[two[i][0]], other = codes[two[i][1]];
+                count(dw_position_of(n, one, other, &place), 0, "triples: pair");
+                count(dw_position_of(n, other, one, &place), 0, "triples: swapped pair");
+                if (position % 64 == 11)
+                    count(dw_sheet(n, one, other, sheet, sizeof sheet), 0, "triples: sheet");
+            }
+        }
+        const uint64_t end = triples[n], spent[] = { end, end + 1, 1 << 16, half - 1, half, half + end / 2, top, top + 1, UINT64_MAX };
+        for (int i = 0; i < 9; i++)
+            expect(triple_at(n, spent[i], codes) == DW_SPENT, "triples: spent");
+    }
+    for (int i = 0; i < 8; i++) {
+        const uint64_t any[] = { 0, 1, 11573, 11574, half, top, UINT64_MAX };
+        for (int k = 0; k < 7; k++)
+            expect(triple_at(outside[i], any[k], codes) == 12, "triples: degree");
+    }
+}
+
 /* Every position of small degrees: plain Euclid counts n + 1 quotients from the given one on, and fewer before it. */
 static void whole_chains(void)
 {
@@ -885,10 +939,10 @@ static void kept_record(void)
     count(dw_look(&walk, &f, &g), 3, "kept record: behind the end");
 }
 
-/* The entries that document 01 prints. */
+/* The entries that document 01 prints, and document 02's on triples. */
 static void printed_entries(void)
 {
-    uint32_t f, g;
+    uint32_t f, g, h;
     uint64_t end = UINT64_C(768614336404564650), pairs;
     count(dw_length(31, &pairs), 0, "degree 31");
     expect(pairs == end, "degree 31: length");
@@ -899,6 +953,11 @@ static void printed_entries(void)
     dw_walk walk;
     count(dw_start(1, &walk), 0, "degree 1");
     count(dw_draw(&walk, 0, &f, &g), DW_SPENT, "degree 1: spent");
+    count(dw_triple_at(2, 0, &f, &g, &h), DW_SPENT, "degree 2: no triple");
+    count(dw_triple_at(3, 12, &f, &g, &h), DW_SPENT, "degree 3: twelve triples");
+    count(dw_triple_at(3, 11, &f, &g, &h), 0, "degree 3: last triple");
+    count(dw_triple_at(3, 0, &f, &g, &h), 0, "degree 3: first triple");
+    expect(f == 9 && g == 11 && h == 13, "degree 3: triple 0");
 }
 
 /* Runs one part, in which each of the numbers, and spent where it is said, must be met. */
@@ -923,6 +982,7 @@ int main(int argc, char **argv)
     part("printed entries", printed_entries, 1, 2, 2, spent);
     part("whole lists", whole_lists, 1, 0, 0, 0);
     part("second lists", second_lists, 1, 2, 2, 0);
+    part("whole triples", whole_triples, 1, 12, 12, spent);
     part("whole chains", whole_chains, 1, 0, 0, 0);
     part("longest file", longest_file, 1, 15, 15, 0);
     part("repeated levels", repeated_levels, 1, 14, 14, bit(7) | bit(9));
@@ -934,6 +994,7 @@ int main(int argc, char **argv)
     part("dw_length", try_length, 100 * scale, 1, 1, 0);
     part("dw_pair_at", try_pair_at, 300 * scale, 1, 2, 0);
     part("dw_unordered_pair_at", try_unordered_pair_at, 300 * scale, 1, 2, 0);
+    part("dw_triple_at", try_triple_at, 100 * scale, 12, 12, spent);
     part("dw_pairs_from", try_pairs_from, 50 * scale, 1, 2, four);
     part("dw_position_of", try_position_of, 300 * scale, 6, 8, one);
     part("dw_chain", try_chain, 300 * scale, 6, 7, one | four);

@@ -176,6 +176,29 @@ static uint64_t ref_longest(uint32_t n)
     return low;
 }
 
+/* The triple at a position of its list, or the number of a refusal, or 255 for spent. The lists are made once: every three odd codes of a
+ * degree are tried, h fastest. */
+static uint32_t ref_triple(uint32_t n, uint64_t position, uint32_t codes[3])
+{
+    static uint32_t listed[7][1 << 15][3], counts[7];
+    for (uint32_t m = counts[6] ? 7 : 2; m < 7; m++)
+        for (uint32_t f = (1u << m) + 1; f < 2u << m; f += 2)
+            for (uint32_t g = (1u << m) + 1; g < 2u << m; g += 2)
+                for (uint32_t h = (1u << m) + 1; h < 2u << m; h += 2)
+                    if (ref_coprime(m, f, g) == 0 && ref_coprime(m, f, h) == 0 && ref_coprime(m, g, h) == 0) {
+                        uint32_t *next = listed[m][counts[m]++];
+                        next[0] = f;
+                        next[1] = g;
+                        next[2] = h;
+                    }
+    if (n < 2 || n > 6)
+        return 12;
+    if (position >= counts[n])
+        return 255;
+    memcpy(codes, listed[n][position], sizeof listed[n][position]);
+    return 0;
+}
+
 static uint32_t ref_symbol(uint32_t n, uint32_t code, uint32_t row, uint32_t col)
 {
     uint32_t cells[64], symbol = 0;

@@ -1,7 +1,7 @@
 #!/usr/bin/env python3
 """The values that the crate compare must print, computed another way: polynomials are sets of exponents in the arithmetic, lists of pairs
-are filtered by plain Euclid and sorted by the key that document 01's order gives, sites are worked cell by cell, and trial files are read
-by a reader written from the documents. Run it to make crates/compare/stdout.
+and of triples are filtered by plain Euclid, the pairs sorted by the key that document 01's order gives, sites are worked cell by cell, and
+trial files are read by a reader written from the documents. Run it to make crates/compare/stdout.
 
 With an argument the lists go up to that degree: reference.py 10"""
 import sys
@@ -311,6 +311,33 @@ def unordered():
     print("unordered ends", mixed(0, *pair_at(31, 2 * (4**30 - 1) // 3 - 2), 2, 2, 2, 2, 1, 1))
 
 
+def triples():
+    """For each degree a checksum of its triples, every three odd codes of which each two are coprime, and of spent (255) from their end up
+    to position 11600, at 2^32 and at 2^64 - 1; degrees 1 and 7 always get 12. Then all triples of degree 3, the last of the other degrees,
+    and what is said behind them."""
+    listed = {1: None, 7: None}
+    for n in range(2, 7):
+        odd = range(2**n + 1, 2 ** (n + 1), 2)
+        coprime = {(f, g) for f in odd for g in odd if chain(f, g)[1] == 1}
+        listed[n] = [(f, g, h) for f in odd for g in odd for h in odd if {(f, g), (f, h), (g, h)} <= coprime]
+
+    def answer(n, position):
+        if listed[n] is None:
+            return (12,)
+        return listed[n][position] if position < len(listed[n]) else (255,)
+
+    for n in range(1, 8):
+        total = 0
+        for position in (*range(11600), 2**32, 2**64 - 1):
+            total = mixed(total, *answer(n, position))
+        print("triples", n, total)
+    lines = [(3, position) for position in range(13)] + [(1, 0), (2, 0), (4, 149), (4, 150), (5, 1379), (5, 1380)]
+    lines += [(6, position) for position in (0, 11573, 11574, 2**32, 2**64 - 1)] + [(7, 0), (7, 2**64 - 1)]
+    for n, position in lines:
+        codes = answer(n, position)
+        print("triple", n, position, *(["spent"] if codes == (255,) else codes))
+
+
 def walks():
     """For each degree a checksum of what a start and 3000 calls answer, each with the next pair after it, and of the position and the counts
     after all: the calls draw for the bonders 0 to 8 in turn, but for every sixteenth, which sets one of the marks 0 to 8, and every 64th,
@@ -359,6 +386,7 @@ if __name__ == "__main__":
     lists(int(sys.argv[1]) if len(sys.argv) > 1 else 12)
     chain_lengths()
     unordered()
+    triples()
     walks()
     print(spread(), 101)
     print(damaged())

@@ -34,7 +34,7 @@ static size_t used(void (*job)(void))
 }
 
 /* What the calls are given, and what they return. */
-static uint32_t n, f, g, row, col, first, second, codes[256], status;
+static uint32_t n, f, g, row, col, first, second, third, codes[256], status;
 static uint64_t position, number;
 static uint16_t levels[DW_LEVELS_ROOM], powers[DW_LEVELS_ROOM], forces[DW_LEVELS_ROOM];
 static uint8_t name[DW_NAME_ROOM], file[DW_FILE_ROOM], sheet[DW_SHEET_ROOM];
@@ -58,6 +58,11 @@ static void calls_pair_at(void)
 static void calls_unordered_pair_at(void)
 {
     status = dw_unordered_pair_at(n, position / 2, &first, &second);
+}
+
+static void calls_triple_at(void)
+{
+    status = dw_triple_at(n, position, &first, &second, &third);
 }
 
 static void calls_pairs_from(void)
@@ -137,8 +142,10 @@ static struct {
     { "dw_look", calls_look, 0 }, { "dw_draw", calls_draw, 0 }, { "dw_set_mark", calls_set_mark, 0 }, { "dw_go_back", calls_go_back, 0 },
     /* With a degree of sheets. */
     { "dw_sheet", calls_sheet, 0 }, { "dw_write", calls_write, 0 }, { "dw_read", calls_read, 0 },
+    /* With a position among triples. */
+    { "dw_triple_at", calls_triple_at, 0 },
 };
-enum { PLACED = 3, OF_SHEETS = 13, CALLS = sizeof calls / sizeof calls[0] };
+enum { PLACED = 3, OF_SHEETS = 13, OF_TRIPLES = 16, CALLS = sizeof calls / sizeof calls[0] };
 
 static int served = 1;
 
@@ -164,6 +171,7 @@ static uint64_t draw(uint64_t below)
 
 int main(void)
 {
+    static const uint64_t triples[] = { 12, 150, 1380, 11574 };
     size_t least = used(nothing), most = 0;
     /* Levels that fall, with one remainder by 1024: each is looked for among those before it. */
     for (size_t i = 0; i < DW_LEVELS_ROOM; i++)
@@ -186,7 +194,13 @@ int main(void)
         measure(0, PLACED);
         position = number - 1;
         measure(PLACED, PLACED + 1);
-        measure(OF_SHEETS, CALLS);
+        measure(OF_SHEETS, OF_TRIPLES);
+    }
+    /* Degree 2 has no triple to serve. */
+    for (uint32_t i = 0; i < ROUNDS; i++) {
+        n = 3 + i % 4;
+        position = draw(triples[i % 4]);
+        measure(OF_TRIPLES, CALLS);
     }
 
     for (size_t i = 0; i < CALLS; i++) {

@@ -1,4 +1,4 @@
-// Checksums of whole lists, of second lists and of chains' lengths, and positions found back.
+// Checksums of whole lists, of second lists, of lists of triples and of chains' lengths, and positions found back.
 use crate::random::mixed;
 
 pub fn length(n: u32) -> u64 {
@@ -51,6 +51,24 @@ pub fn unordered_ends_sum() -> u64 {
     let empty = unordered_pair(greatest, 1, 0);
     let below = unordered_pair(empty, 0, 0);
     unordered_pair(below, 32, 18446744073709551615)
+}
+
+fn triple(sum: u64, n: u32, position: u64) -> u64 {
+    match triples::triple_at(n, position) {
+        triples::Entry::Codes(f, g, h) => mixed(mixed(mixed(sum, f as u64), g as u64), h as u64),
+        triples::Entry::Spent => mixed(sum, 255),
+        triples::Entry::Refused(refusal) => mixed(sum, refusal.number() as u64),
+    }
+}
+
+// The list of triples, what is said from its end up to position 11600, which is behind the longest, and at 2^32 and 2^64 - 1.
+pub fn triple_sum(n: u32) -> u64 {
+    let mut sum: u64 = 0;
+    for position in 0..11600u64 {
+        sum = triple(sum, n, position);
+    }
+    let far = triple(sum, n, 4294967296);
+    triple(far, n, 18446744073709551615)
 }
 
 // 1 if the pair at the position is found there again.

@@ -87,6 +87,70 @@ fn unordered_lines() {
     }
 }
 
+// Degree and checksum of a list of triples; degrees 1 and 7 are refused throughout.
+fn triples_line(n: u32) {
+    io::write_all(STDOUT_FILENO, b"triples ");
+    number(n as u64);
+    io::write_all(STDOUT_FILENO, b" ");
+    line(lists::triple_sum(n));
+}
+
+fn triples_lines() {
+    for n in 1..8u32 {
+        triples_line(n);
+    }
+}
+
+fn triple(n: u32, position: u64) {
+    match triples::triple_at(n, position) {
+        triples::Entry::Codes(f, g, h) => {
+            number(f as u64);
+            io::write_all(STDOUT_FILENO, b" ");
+            number(g as u64);
+            io::write_all(STDOUT_FILENO, b" ");
+            line(h as u64);
+        }
+        triples::Entry::Spent => {
+            io::write_all(STDOUT_FILENO, b"spent\n");
+        }
+        triples::Entry::Refused(refusal) => line(refusal.number() as u64),
+    }
+}
+
+// Degree, position and what stands there.
+fn triple_line(n: u32, position: u64) {
+    io::write_all(STDOUT_FILENO, b"triple ");
+    number(n as u64);
+    io::write_all(STDOUT_FILENO, b" ");
+    number(position);
+    io::write_all(STDOUT_FILENO, b" ");
+    triple(n, position);
+}
+
+// All triples of degree 3, and what is said behind them.
+fn triple_lines() {
+    for position in 0..13u64 {
+        triple_line(3, position);
+    }
+}
+
+// The last triples of the other degrees and what is said behind them; the first one of degree 6; positions far behind; degrees 1 and 7.
+fn triple_ends() {
+    triple_line(1, 0);
+    triple_line(2, 0);
+    triple_line(4, 149);
+    triple_line(4, 150);
+    triple_line(5, 1379);
+    triple_line(5, 1380);
+    triple_line(6, 0);
+    triple_line(6, 11573);
+    triple_line(6, 11574);
+    triple_line(6, 4294967296);
+    triple_line(6, 18446744073709551615);
+    triple_line(7, 0);
+    triple_line(7, 18446744073709551615);
+}
+
 // Degree and checksum of a walk with marks and bonders; degrees 0 and 32 are refused throughout.
 fn walk_line(n: u32) {
     io::write_all(STDOUT_FILENO, b"walk ");
@@ -112,6 +176,9 @@ fn main() {
     unordered_lines();
     io::write_all(STDOUT_FILENO, b"unordered ends ");
     line(lists::unordered_ends_sum());
+    triples_lines();
+    triple_lines();
+    triple_ends();
     walk_lines();
     number(lists::spread_sum());
     io::write_all(STDOUT_FILENO, b" ");

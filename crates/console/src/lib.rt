@@ -5,3 +5,6 @@ mod files;
 mod lists;
 mod sheets;
 mod walks;
+
+// What a call returns that says spent.
+const SPENT: u32 = 255;

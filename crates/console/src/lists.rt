@@ -1,9 +1,11 @@
-// The list of pairs, for C.
+// The lists of pairs and of triples, for C.
+use crate::SPENT;
 use listing::Filled;
 use pairs::Found;
 use poly::Count;
 use poly::Degree;
 use positions::Place;
+use triples::Entry;
 ghost use mathlib.Core.Path.{_≡_};
 ghost use lib.ListN.{length};
 ghost use Rattle.console.specs.Status.{status, value};
@@ -11,6 +13,7 @@ ghost use Rattle.poly.specs.Replies.{lengthReply};
 ghost use Rattle.pairs.specs.Replies.{foundReply, pairAtReply};
 ghost use Rattle.positions.specs.Replies.{positionReply};
 ghost use Rattle.unordered.specs.Replies.{unorderedReply};
+ghost use Rattle.triples.specs.Replies.{tripleAtReply};
 ghost use Rattle.listing.specs.Replies.{fromReply, fromContent};
 
 // The length of the list of degree n.
@@ -95,6 +98,27 @@ pub extern "C" fn dw_position_of(n: u32, f: u32, g: u32, position: &mut u64) -> 
         Place::Refused(refusal) => refusal.number(),
         Place::At(place) => {
             *position = place;
+            0
+        }
+    }
+}
+
+// The triple at a position of the list of all triples of degree n.
+#[no_mangle]
+pub extern "C" fn dw_triple_at(n: u32, position: u64, f: &mut u32, g: &mut u32, h: &mut u32) -> u32
+    ensures { λ r. ⌜ r ≡ status (tripleAtReply n position) ⌝ }
+    ensures { λ _. ⌜ now (f .exit) ≡ value 0 (tripleAtReply n position) (now (f .entry)) ⌝ }
+    ensures { λ _. ⌜ now (g .exit) ≡ value 1 (tripleAtReply n position) (now (g .entry)) ⌝ }
+    ensures { λ _. ⌜ now (h .exit) ≡ value 2 (tripleAtReply n position) (now (h .entry)) ⌝ }
+{
+    let answer = triples::triple_at(n, position);
+    match answer {
+        Entry::Refused(refusal) => refusal.number(),
+        Entry::Spent => SPENT,
+        Entry::Codes(first, second, third) => {
+            *f = first;
+            *g = second;
+            *h = third;
             0
         }
     }

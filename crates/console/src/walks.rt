@@ -1,4 +1,5 @@
 // Walks, for C. An exported function that takes a lent record is proved by hand, over a core that takes and gives the record by value.
+use crate::SPENT;
 use walk::Change;
 use walk::Changed;
 use walk::Next;
@@ -7,9 +8,6 @@ ghost use mathlib.Core.Path.{_≡_};
 ghost use Rattle.walk.specs.Walks.{begun, changeReply, nextReply};
 ghost use Rattle.console.specs.Status.{status};
 ghost use Rattle.console.specs.Records.{Gives, Starts, Looks, Draws, SetsMark, GoesBack};
-
-// What look and draw return at the end of a list.
-const SPENT: u32 = 255;
 
 // What a call that changes a record returns, and the record to store where that is 0.
 struct Outcome {

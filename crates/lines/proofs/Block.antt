@@ -10,9 +10,9 @@ use lib.Dec.{leb}
 use lib.ListN.{length, getD, take, drop, length-take, length-drop, drop-of-length-le}
 use lib.Seq.{drop-nil, drop-cons, getD-take, getD-drop, ext-getD}
 use Rattle.reply.specs.Reply.{served, refused}
+use Rattle.loops.specs.Loops.{numbers}
+use Rattle.loops.proofs.Loops.{Listed, listed-as, listed-map, listed-numbers}
 use Rattle.poly.specs.Limits.{outside, listLength}
-use Rattle.pairs.specs.Loops.{numbers}
-use Rattle.pairs.proofs.Loops.{Listed, listed-as, listed-map, listed-numbers}
 use Rattle.listing.specs.Replies.{fromReply, fromContent}
 use Rattle.listing.proofs.From.{from-entries, from-many}
 use Rattle.lines.specs.Text.{replyLine}

@@ -10,11 +10,11 @@ use borrow.Author.Tests.{le-leb, ne-eqb}
 use lib.Dec.{lit<}
 use lib.ListN.{length, drop, length-append, length-drop, drop-of-length-le}
 use lib.Seq.{drop-cons, drop-drop}
+use Rattle.loops.specs.Loops.{numbers, each}
+use Rattle.loops.proofs.Loops.{each-map}
 use Rattle.poly.specs.Limits.{outside, listLength}
 use Rattle.poly.proofs.Ranges.{within, inside, list-length-lt}
-use Rattle.pairs.specs.Loops.{numbers, each}
 use Rattle.pairs.specs.Pairs.{entry}
-use Rattle.pairs.proofs.Loops.{each-map}
 use Rattle.pairs.proofs.Pairs.{length-pairs}
 use Rattle.pairs.proofs.Standing.{entries-coprime, pair-answers}
 use Rattle.lines.specs.Text.{decimal, line}

@@ -5,8 +5,8 @@ use mathlib.Core.Bool.{cond}
 use mathlib.Core.List.{List, [], _∷_, map}
 use lib.Dec.{leb}
 use lib.ListN.{length, drop}
+use Rattle.loops.specs.Loops.{numbers, each}
 use Rattle.poly.specs.Limits.{outside, listLength}
-use Rattle.pairs.specs.Loops.{numbers, each}
 use Rattle.lines.specs.Text.{Lined}
 use Rattle.lines.specs.Output.{entryLine}
 

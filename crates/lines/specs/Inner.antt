@@ -3,7 +3,7 @@ use mathlib.Core.Path.{_≡_}
 use Prim.Native.Nat.{ℕ, _+_, _-_, _*_}
 use mathlib.Core.List.{List, [], _∷_, map}
 use lib.ListN.{length, getD, take, drop}
-use Rattle.pairs.specs.Loops.{numbers}
+use Rattle.loops.specs.Loops.{numbers}
 use Rattle.lines.specs.Text.{line, Placed}
 use Rattle.lines.specs.Filling.{joined, fittingLines, entryLines}
 

@@ -2,9 +2,9 @@
 use Prim.Native.Nat.{ℕ}
 use mathlib.Core.List.{List, [], _∷_, _++_}
 use Rattle.reply.specs.Reply.{Reply, served, refused, spent}
+use Rattle.loops.specs.Loops.{numbers, each}
 use Rattle.poly.specs.Limits.{listLength}
 use Rattle.poly.specs.Replies.{lengthReply}
-use Rattle.pairs.specs.Loops.{numbers, each}
 use Rattle.pairs.specs.Replies.{pairAtReply}
 use Rattle.lines.specs.Input.{inputReply}
 use Rattle.lines.specs.Text.{replyLine}

@@ -25,16 +25,16 @@ use mathlib.Core.List.{List, [], _∷_, _++_, map, map-map, map-append}
 use lib.ListN.{length, getD, drop, replicate, length-map, length-replicate}
 use lib.Seq.{drop-append-add, drop-drop, drop-nil, ext-getD}
 use lib.Pow.{pow-pos}
+use Rattle.loops.specs.Loops.{numbers, each}
+use Rattle.loops.proofs.Loops.{Listed, listed-map, listed-numbers, listed-each, map-each}
 use Rattle.poly.specs.Code.{degree}
 use Rattle.euclid.specs.Chain.{Pair}
 use Rattle.pairs.specs.Counts.{sum}
-use Rattle.pairs.specs.Loops.{numbers, each}
 use Rattle.pairs.specs.Words.{State, s10, s11, s01, step, words, wordsFrom}
 use Rattle.pairs.specs.Sequences.{bit, bits, compositions, block}
 use Rattle.pairs.specs.Pairs.{build}
 use Rattle.listing.specs.Filling.{Written, lettered, onward, stateOf, Fits, Ready, group, HeadsOf}
 use Rattle.pairs.proofs.Valid.{EachPositive}
-use Rattle.pairs.proofs.Loops.{Listed, listed-map, listed-numbers, listed-each, map-each}
 use Rattle.pairs.proofs.Words.{count, wordAt, listed-words, wordsFrom-suc}
 use Rattle.pairs.proofs.Compositions.{parts, compositionAt, CompositionAt, compositionAt-known, listed-compositions}
 use Rattle.pairs.proofs.Quotients.{quotients-parts, bits-total, code-has}

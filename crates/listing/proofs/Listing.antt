@@ -7,13 +7,13 @@ use mathlib.Core.Path.{_≡_, refl, sym, ap, _∙_}
 use mathlib.Core.List.{List, [], _++_, map}
 use lib.ListN.{length, length-map}
 use lib.Pow.{shl-exact}
+use Rattle.loops.specs.Loops.{numbers, each}
+use Rattle.loops.proofs.Loops.{map-each}
 use Rattle.euclid.specs.Chain.{Pair}
-use Rattle.pairs.specs.Loops.{numbers, each}
 use Rattle.pairs.specs.Words.{words}
 use Rattle.pairs.specs.Sequences.{compositions, block, sequences}
 use Rattle.pairs.specs.Pairs.{build, pairs}
 use Rattle.listing.specs.Filling.{Written}
-use Rattle.pairs.proofs.Loops.{map-each}
 use Rattle.pairs.proofs.Words.{listed-words}
 use Rattle.pairs.proofs.Compositions.{parts, listed-compositions}
 use Rattle.pairs.proofs.Blocks.{blockSize, listed-block}

@@ -11,13 +11,13 @@ use lib.ListN.{length, take}
 use lib.Pow.{pow-mono}
 use Rattle.reply.specs.Reply.{served, _gives_}
 use Rattle.reply.proofs.Order.{none-refuses}
+use Rattle.loops.specs.Loops.{numbers}
 use Rattle.poly.specs.Limits.{outside, listLength}
 use Rattle.poly.specs.Causes.{degreeCause, codeCauses}
 use Rattle.poly.proofs.Ranges.{inside, within, codes-pass}
 use Rattle.euclid.specs.Chain.{Pair, chain}
 use Rattle.euclid.specs.Replies.{chainReply}
 use Rattle.euclid.proofs.Chains.{divisor-coprime}
-use Rattle.pairs.specs.Loops.{numbers}
 use Rattle.pairs.specs.Words.{s10}
 use Rattle.pairs.specs.Pairs.{pairs, entry, CoprimePair}
 use Rattle.pairs.proofs.Words.{count, count-closed}

@@ -11,10 +11,10 @@ use mathlib.Core.Path.{_≡_, refl, ap, _∙_}
 use borrow.Author.Tests.{eq-eqb, ne-eqb}
 use lib.Dec.{eqb}
 use lib.ListN.{length, length-reverse}
-use Rattle.pairs.specs.Loops.{numbers, filter}
+use Rattle.loops.specs.Loops.{numbers, filter}
+use Rattle.loops.proofs.Loops.{before, before-lt, before-next, listed-numbers}
 use Rattle.pairs.specs.Words.{s10}
 use Rattle.pairs.specs.Pairs.{start, pairs}
-use Rattle.pairs.proofs.Loops.{before, before-lt, before-next, listed-numbers}
 use Rattle.pairs.proofs.Binomial.{choose-all}
 use Rattle.pairs.proofs.Compositions.{parts}
 use Rattle.pairs.proofs.Words.{count, count-closed}

@@ -3,8 +3,8 @@ use Prim.Native.Nat.{ℕ, _+_}
 use mathlib.Core.List.{List}
 use lib.Dec.{eqb}
 use lib.ListN.{length}
+use Rattle.loops.specs.Loops.{numbers, filter}
 use Rattle.euclid.specs.Chain.{chain}
-use Rattle.pairs.specs.Loops.{numbers, filter}
 use Rattle.pairs.specs.Pairs.{pairs, entry}
 
 -- How many quotients the chain of the pair at position j of the list of degree n has.

@@ -9,13 +9,13 @@ use mathlib.Core.List.{List, [], map}
 use lib.ListN.{length, length-map}
 use lib.Arith.{digits-div, digits-mod, digits-lt, mod-mul}
 use lib.Pow.{pow-pos}
+use Rattle.loops.specs.Loops.{numbers, each}
+use Rattle.loops.proofs.Loops.{Listed, listed-as, listed-map, listed-numbers, listed-each, factor-pos}
 use Rattle.poly.specs.Code.{degree}
 use Rattle.pairs.specs.Counts.{sum}
-use Rattle.pairs.specs.Loops.{numbers, each}
 use Rattle.pairs.specs.Words.{s10, words, kept}
 use Rattle.pairs.specs.Sequences.{quotients, block, bits}
 use Rattle.pairs.proofs.Valid.{constant, Valid}
-use Rattle.pairs.proofs.Loops.{Listed, listed-as, listed-map, listed-numbers, listed-each, factor-pos}
 use Rattle.pairs.proofs.Words.{count, wordAt, wordRank, listed-words, WordAt, wordAt-known, wordRank-lt, wordAt-rank}
 use Rattle.pairs.proofs.Compositions.{
   parts,

@@ -8,10 +8,10 @@ use lib.Arith.{le-zero}
 use lib.Dec.{ltb, ltb→lt}
 use lib.ListN.{length}
 use lib.Pow.{pow-mono}
+use Rattle.loops.specs.Loops.{numbers}
+use Rattle.loops.proofs.Entries.{entry}
 use Rattle.pairs.specs.Counts.{choose}
-use Rattle.pairs.specs.Loops.{numbers}
 use Rattle.pairs.specs.Words.{words}
-use Rattle.pairs.proofs.Entries.{entry}
 use Rattle.pairs.proofs.Words.{words-closed}
 use Rattle.pairs.proofs.Binomial.{choose-above}
 use Rattle.pairs.proofs.Blocks.{blockSize}

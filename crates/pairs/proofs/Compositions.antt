@@ -12,11 +12,11 @@ use lib.ListN.{length}
 use lib.Dec.{ltb}
 use lib.Arith.{lt-one}
 use borrow.Author.Tests.{lt-ltb, le-ltb}
+use Rattle.loops.proofs.Loops.{Listed, listed-map, listed-append, numbers-suc, each-map, map-each}
 use Rattle.pairs.specs.Counts.{choose, sum}
 use Rattle.pairs.specs.Sequences.{compositions}
 use Rattle.pairs.proofs.Valid.{EachPositive}
 use Rattle.pairs.proofs.Binomial.{choose-down}
-use Rattle.pairs.proofs.Loops.{Listed, listed-map, listed-append, numbers-suc, each-map, map-each}
 
 -- The number of compositions of n into k parts.
 abbrev pub parts : ℕ → ℕ → ℕ

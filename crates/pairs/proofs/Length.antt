@@ -9,12 +9,12 @@ use mathlib.Core.Path.{_≡_, refl, ap, _∙_}
 use mathlib.Core.Bool.{true, false}
 use mathlib.Core.List.{map}
 use lib.ListN.{length}
+use Rattle.loops.specs.Loops.{numbers}
+use Rattle.loops.proofs.Loops.{before}
 use Rattle.pairs.specs.Counts.{sum, choose}
-use Rattle.pairs.specs.Loops.{numbers}
 use Rattle.pairs.specs.Claims.{withQuotients}
 use Rattle.pairs.specs.Words.{State, s10, s11, s01, step}
 use Rattle.pairs.specs.Sequences.{sequences}
-use Rattle.pairs.proofs.Loops.{before}
 use Rattle.pairs.proofs.Words.{count, listed-wordsFrom}
 use Rattle.pairs.proofs.Binomial.{choose-above}
 use Rattle.pairs.proofs.Blocks.{blockSize}

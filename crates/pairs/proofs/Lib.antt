@@ -1,6 +1,4 @@
 pub mod Valid
-pub mod Entries
-pub mod Loops
 pub mod Words
 pub mod Letters
 pub mod Reciprocals

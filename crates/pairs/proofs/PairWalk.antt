@@ -12,6 +12,7 @@ use lib.ListN.{length, getD}
 use lib.Dec.{ltb}
 use lib.Pow.{pow-pos, pow-mono}
 use borrow.Author.Tests.{lt-ltb, le-ltb}
+use Rattle.loops.proofs.Loops.{seek, seek-map}
 use Rattle.poly.specs.Code.{add, mul, scale}
 use Rattle.poly.proofs.Ring
 use Rattle.pairs.specs.Sequences.{bit}
@@ -21,7 +22,6 @@ use Rattle.pairs.specs.Words.{s10}
 use Rattle.pairs.proofs.Compositions.{parts}
 use Rattle.pairs.proofs.Words.{count, wordAt}
 use Rattle.pairs.proofs.Blocks.{blockSize, blockAt}
-use Rattle.pairs.proofs.Loops.{seek, seek-map}
 use Rattle.pairs.proofs.Sequences.{sequenceAt}
 use Rattle.pairs.proofs.Pairs.{length-blocks, pairAt-is}
 use Rattle.pairs.proofs.Walk.{walk, blockAt-walk}

@@ -3,13 +3,13 @@ use Prim.Native.Nat.{ℕ, _-_, _*_, _/_, _^_, _<_}
 use mathlib.Core.Path.{_≡_, ap, _∙_}
 use mathlib.Core.List.{map}
 use lib.ListN.{length, getD, length-map}
-use Rattle.pairs.specs.Loops.{numbers}
+use Rattle.loops.specs.Loops.{numbers}
+use Rattle.loops.proofs.Loops.{before, listed-map}
 use Rattle.pairs.specs.Counts.{sum}
 use Rattle.pairs.specs.Claims.{withQuotients}
 use Rattle.pairs.specs.Sequences.{sequences}
 use Rattle.euclid.specs.Chain.{Pair}
 use Rattle.pairs.specs.Pairs.{build, pairs}
-use Rattle.pairs.proofs.Loops.{before, listed-map}
 use Rattle.pairs.proofs.Sequences.{sequenceAt, SequenceAt, sequenceAt-known, listed-sequences, length-sequences}
 use Rattle.pairs.proofs.Blocks.{blockSize}
 use Rattle.pairs.proofs.Length.{length-tripled, length-closed, length-summed}

@@ -6,9 +6,9 @@ use native.Mathlib.Omega.{arith}
 use mathlib.Core.Path.{_≡_, sym, ap, _∙_}
 use mathlib.Core.List.{List, []}
 use lib.ListN.{length, getD}
+use Rattle.loops.proofs.Loops.{Listed, listed-blocks, before, before-lt, block-le, seek, seek-before, Place, place}
 use Rattle.pairs.specs.Sequences.{block, sequences}
 use Rattle.pairs.proofs.Valid.{Valid}
-use Rattle.pairs.proofs.Loops.{Listed, listed-blocks, before, before-lt, block-le, seek, seek-before, Place, place}
 use Rattle.pairs.proofs.Blocks.{
   blockSize,
   blockAt,

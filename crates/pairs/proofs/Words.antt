@@ -11,9 +11,9 @@ use lib.ListN.{length}
 use lib.Dec.{ltb}
 use lib.Arith.{lt-one}
 use borrow.Author.Tests.{lt-ltb, le-ltb}
+use Rattle.loops.proofs.Loops.{filter-append, filter-map, Listed, listed-map, listed-append}
 use Rattle.pairs.specs.Words.{State, s10, s11, s01, step, run, is10, wordsFrom, words, tabled}
 use Rattle.pairs.specs.Claims.{WordsClaim}
-use Rattle.pairs.proofs.Loops.{filter-append, filter-map, Listed, listed-map, listed-append}
 
 -- How many words of m letters lead from a state to (1,0).
 abbrev pub count : State → ℕ → ℕ

@@ -3,9 +3,9 @@ use mathlib.Core.List.{map}
 use mathlib.Core.Path.{_≡_}
 use Prim.Native.Nat.{ℕ, _+_, _-_, _*_, _%_, _^_, _≤_, _<_}
 use lib.ListN.{length}
+use Rattle.loops.specs.Loops.{numbers}
 use Rattle.poly.specs.Limits.{listLength}
 use Rattle.euclid.specs.Chain.{Pair}
-use Rattle.pairs.specs.Loops.{numbers}
 use Rattle.pairs.specs.Counts.{sum, choose}
 use Rattle.pairs.specs.Words.{words}
 use Rattle.pairs.specs.Pairs.{pairs, entry, CoprimePair}

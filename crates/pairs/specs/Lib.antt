@@ -1,4 +1,3 @@
-pub mod Loops
 pub mod Counts
 pub mod Words
 pub mod Sequences

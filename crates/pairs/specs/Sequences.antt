@@ -2,7 +2,7 @@
 use Prim.Native.Nat.{ℕ, zero, suc, _+_, _-_, _*_, _/_, _%_, _^_}
 use mathlib.Core.Bool.{Bool, true, false}
 use mathlib.Core.List.{List, [], _∷_, map}
-use Rattle.pairs.specs.Loops.{numbers, each}
+use Rattle.loops.specs.Loops.{numbers, each}
 use Rattle.pairs.specs.Words.{words}
 
 -- The lists of k degrees, each at least 1, with sum n, in rising dictionary order: the first degree rises from 1 to n.

@@ -4,7 +4,7 @@ use mathlib.Core.Bool.{Bool, true, false, cond}
 use mathlib.Core.List.{List, [], _∷_, _++_, map}
 use lib.Dec.{ltb}
 use lib.ListN.{length}
-use Rattle.pairs.specs.Loops.{filter}
+use Rattle.loops.specs.Loops.{filter}
 
 -- The constant terms of the two remainders: (1,0), (1,1), (0,1).
 pub data State : Type 0 where

@@ -11,7 +11,7 @@ use Rattle.poly.specs.Coprime.{gcd}
 abbrev pub degreeCause : ℕ → Cause
 degreeCause n = outside 1 31 n gives 1
 
--- 12: degree of a sheet or a trial file outside 2 to 6.
+-- 12: degree of a sheet, a trial file or the list of triples outside 2 to 6.
 abbrev pub sheetDegreeCause : ℕ → Cause
 sheetDegreeCause n = outside 2 6 n gives 12
 

@@ -19,7 +19,7 @@ impl Degree {
     pub const LEAST: u32 = 1;
 
     pub const GREATEST: u32 = 31;
-    // A sheet has degree 2 to this.
+    // A sheet, a trial file and a list of triples have degree 2 to this.
     pub const GREATEST_SHEET: u32 = 6;
 
     // Whether the degree is outside its limits.
@@ -29,7 +29,7 @@ impl Degree {
         off(Degree::LEAST, Degree::GREATEST, self.n)
     }
 
-    // Whether there are no sheets and no trial files of this degree.
+    // Whether there are no sheets, no trial files and no list of triples of this degree.
     pub fn outside_sheets(self) -> bool
         ensures { λ r. ⌜ r ≡ outside 2 6 (self .n) ⌝ }
     {

@@ -8,13 +8,13 @@ use mathlib.Core.Bool.{true}
 use mathlib.Core.List.{List, map}
 use lib.ListN.{length, length-map}
 use lib.Pow.{pow-mono, shl-lt, shl-exact}
+use Rattle.loops.specs.Loops.{numbers, each}
+use Rattle.loops.proofs.Loops.{before}
 use Rattle.poly.specs.Code.{degree}
-use Rattle.pairs.specs.Loops.{numbers, each}
 use Rattle.pairs.specs.Words.{s10, leads, words, wordsFrom}
 use Rattle.pairs.specs.Sequences.{bits, compositions, block, sequences}
 use Rattle.positions.specs.Ranking.{StandsAt, lastLetters, Parts}
 use Rattle.pairs.proofs.Valid.{Valid}
-use Rattle.pairs.proofs.Loops.{before}
 use Rattle.pairs.proofs.Words.{count, length-words}
 use Rattle.pairs.proofs.Compositions.{listed-compositions}
 use Rattle.pairs.proofs.Quotients.{Parts as Known, quotients-parts, bits-total}

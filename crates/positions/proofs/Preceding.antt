@@ -6,11 +6,11 @@ use mathlib.Core.Path.{_≡_, ap, _∙_}
 use mathlib.Core.List.{[]}
 use lib.ListN.{length}
 use lib.Pow.{pow-pos, shl-exact}
-use Rattle.pairs.specs.Loops.{numbers, each}
+use Rattle.loops.specs.Loops.{numbers, each}
+use Rattle.loops.proofs.Loops.{before, before-next, listed-blocks}
 use Rattle.pairs.specs.Words.{s10, words}
 use Rattle.pairs.specs.Sequences.{block, sequences}
 use Rattle.pairs.proofs.Compositions.{parts}
-use Rattle.pairs.proofs.Loops.{before, before-next, listed-blocks}
 use Rattle.pairs.proofs.Words.{count, length-words}
 use Rattle.pairs.proofs.Blocks.{blockSize, blockAt, listed-block}
 use Rattle.pairs.proofs.Sequences.{length-sequences}

@@ -8,9 +8,9 @@ use Rattle.reply.specs.declared.Refusal.the-variants.{NameLength, NameBy
 use Rattle.reply.specs.declared.Refusal.the-variants.{MarkRange, MarkEmpty, BonderRange, BonderFull}
 
 abbrev pub numberOf : Refusal → ℕ
--- degree outside 1 to 31 (sheet: 12 instead)
+-- degree outside 1 to 31 (sheet, list of triples: 12 instead)
 numberOf DegreeRange = 1
--- position not below the list's length; in the second list, entry not below half that length (document 02, request b)
+-- position not below the length of the list of pairs; in the second list, entry not below half that length (document 02, request b)
 numberOf PositionRange = 2
 -- walk record with degree outside 1 to 31, position above the length, a set mark beyond the length (document 02, request c), or a count
 -- above 1000000000000000000 (document 02, request g)
@@ -31,7 +31,7 @@ numberOf FileEnds = 9
 numberOf NumberForm = 10
 -- version not 1
 numberOf Version = 11
--- degree outside 2 to 6, of a trial file or a sheet
+-- degree outside 2 to 6, of a trial file, a sheet or the list of triples (document 02, request f)
 numberOf SheetDegree = 12
 -- level above 65535 (reader only)
 numberOf LevelRange = 13

@@ -3,8 +3,8 @@ use Prim.Native.Nat.{ℕ}
 use mathlib.Core.Bool.{Bool, true, false}
 use mathlib.Core.List.{List, [], _∷_}
 
--- A call is served with values, refused with a number (document 01: turned down), or says spent (document 01's word for a walk at the end
--- of its list).
+-- A call is served with values, refused with a number (document 01: turned down), or says spent (the documents' word: a walk at the end of
+-- its list; a position behind the list of triples).
 pub data Reply : Type 0 where
   served : List ℕ → Reply
   refused : ℕ → Reply

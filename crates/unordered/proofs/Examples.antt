@@ -3,9 +3,9 @@ use mathlib.Core.List.{[], _∷_, map}
 use mathlib.Core.Path.{_≡_, refl}
 use Prim.Native.Nat.{_-_, _^_}
 use Rattle.reply.specs.Reply.{refused}
+use Rattle.loops.specs.Loops.{numbers}
 use Rattle.poly.specs.Code.{add, mul, scale}
 use Rattle.poly.specs.Limits.{outside}
-use Rattle.pairs.specs.Loops.{numbers}
 use Rattle.pairs.specs.Words.{wordsFrom}
 use Rattle.pairs.specs.Sequences.{compositions, sequences, block}
 use Rattle.pairs.specs.Pairs.{turn, build, pairs}

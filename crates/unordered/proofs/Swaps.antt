@@ -10,6 +10,7 @@ use mathlib.Core.List.{List, [], _∷_, map}
 use mathlib.Core.Path.{_≡_, refl, sym, ap, _∙_}
 use borrow.Author.Tests.{eq-eqb, ne-eqb}
 use lib.ListN.{length}
+use Rattle.loops.proofs.Loops.{before}
 use Rattle.poly.specs.Code.{add, mul, degree}
 use Rattle.poly.proofs.Ring
 use Rattle.poly.proofs.Leading
@@ -19,7 +20,6 @@ use Rattle.pairs.specs.Counts.{sum}
 use Rattle.pairs.specs.Words.{s10, kept}
 use Rattle.pairs.specs.Pairs.{turn, turns, start, build, pairs, entry}
 use Rattle.pairs.proofs.Valid.{Valid, EachPositive, constant}
-use Rattle.pairs.proofs.Loops.{before}
 use Rattle.pairs.proofs.Words.{count, wordRank}
 use Rattle.pairs.proofs.Quotients.{pow-half, middle, code-has}
 use Rattle.pairs.proofs.Compositions.{parts}

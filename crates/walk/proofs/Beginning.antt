@@ -6,12 +6,12 @@ use mathlib.Core.Path.{_≡_, refl, sym, ap, subst, _∙_}
 use mathlib.Core.List.{List, map}
 use lib.Dec.{lit<}
 use lib.ListN.{getD}
+use Rattle.loops.specs.Loops.{numbers}
+use Rattle.loops.proofs.Loops.{listed-numbers, listed-map}
 use Rattle.poly.specs.Code.{add, scale}
 use Rattle.poly.specs.Limits.{listLength}
 use Rattle.euclid.specs.Chain.{Pair}
-use Rattle.pairs.specs.Loops.{numbers}
 use Rattle.pairs.specs.Pairs.{start}
-use Rattle.pairs.proofs.Loops.{listed-numbers, listed-map}
 use Rattle.pairs.proofs.Blocks.{blockSize}
 use Rattle.pairs.proofs.Pairs.{length-pairs}
 use Rattle.pairs.proofs.PairWalk.{append, shift, walkIn, pairIn, pairAt, pairAt-walk}

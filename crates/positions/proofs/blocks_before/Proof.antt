@@ -6,8 +6,8 @@ use native.Mathlib.Numerals.{add-one}
 use native.Mathlib.Omega.{arith}
 use borrow.Author.Needs.{needs}
 use lib.ListN.{length}
+use Rattle.loops.proofs.Loops.{before}
 use Rattle.pairs.specs.Words.{words}
-use Rattle.pairs.proofs.Loops.{before}
 use Rattle.pairs.proofs.Words.{listed-words}
 use Rattle.pairs.proofs.Shares.{next-fits, next-words}
 use Rattle.pairs.proofs.Compositions.{parts, listed-compositions}

@@ -8,11 +8,11 @@ use native.Mathlib.Omega.{arith}
 use borrow.Author.Needs.{needs}
 use borrow.Author.Tests.{lt-ltb, le-ltb}
 use lib.ListN.{length, getD}
+use Rattle.loops.proofs.Loops as loops
 use Rattle.pairs.specs.Words.{words}
 use Rattle.pairs.specs.Sequences.{compositions, block}
 use Rattle.pairs.specs.Pairs.{start, build, pairs}
 use Rattle.pairs.specs.Replies.{pairReply}
-use Rattle.pairs.proofs.Loops as loops
 use Rattle.pairs.proofs.Words.{listed-words}
 use Rattle.pairs.proofs.Shares.{next-fits, next-words}
 use Rattle.pairs.proofs.Compositions.{parts, listed-compositions}

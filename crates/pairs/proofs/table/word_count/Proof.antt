@@ -8,8 +8,8 @@ use borrow.Author.Needs.{needs}
 use borrow.Author.Tests.{le-ltb}
 use lib.Dec.{eqb, eqb→eq, ltb, ltb→lt}
 use lib.ListN.{length, getD}
+use Rattle.loops.proofs.Entries.{entry}
 use Rattle.pairs.specs.Words.{words, tabled}
-use Rattle.pairs.proofs.Entries.{entry}
 use Rattle.pairs.proofs.Words.{words-closed, tabled-is}
 use Rattle.pairs.proofs.table.word_count.Statement.{statement}
 use Rattle.pairs.proofs.table.word_count.Tie as tie

@@ -30,7 +30,7 @@ use lib.ListN.{length, getD, length-append, length-map, List·getD-append}
 use lib.Seq.{getD-append-add}
 use lib.Dec.{ltb}
 use borrow.Author.Tests.{lt-ltb, le-ltb}
-use Rattle.pairs.specs.Loops.{numbers, each, filter}
+use Rattle.loops.specs.Loops.{numbers, each, filter}
 
 -- A list of length m with `at j` at each place j; d is the default of `getD`.
 pub record Listed {A : Type 0} (xs : List A) (m : ℕ) (at : ℕ → A) (d : A) : Type 0 where
@@ -53,13 +53,19 @@ getD-numbers a (suc m) (suc i) d h = getD-numbers (suc a) m i d (omega arith) �
 pub listed-numbers : (a m : ℕ) → Listed (numbers a m) m (λ i. a + i) 0
 listed-numbers a m = record { long = length-numbers a m; stands = λ i h. getD-numbers a m i 0 h }
 
+-- the numbers from a + b on, from those from b on
+pub numbers-add : (a b m : ℕ) → numbers (a + b) m ≡ map (_+_ a) (numbers b m)
+numbers-add a b zero = refl
+numbers-add a b (suc m) =
+    ap (_∷_ (a + b)) (ap (λ (c : ℕ). numbers c m) (sym (add-suc a b)) ∙ numbers-add a (suc b) m)
+
 pub numbers-suc : (a m : ℕ) → numbers (suc a) m ≡ map suc (numbers a m)
 numbers-suc a zero = refl
 numbers-suc a (suc m) = ap (_∷_ (suc a)) (numbers-suc (suc a) m)
 
 module _ {A B : Type 0} where
   -- In range, the default does not matter.
-  getD-map : (f : A → B) (xs : List A) (i : ℕ) (d : A) (e : B) → i < length xs → getD (map f xs) i e ≡ f (getD xs i d)
+  pub getD-map : (f : A → B) (xs : List A) (i : ℕ) (d : A) (e : B) → i < length xs → getD (map f xs) i e ≡ f (getD xs i d)
   getD-map f [] i d e h = absurd (omega arith)
   getD-map f (x ∷ xs) zero d e h = refl
   getD-map f (x ∷ xs) (suc i) d e h = getD-map f xs i d e (omega arith)
@@ -101,6 +107,24 @@ module _ {A : Type 0} where
     ];
   }
 
+-- What is sought stands at this place of the list; d is the default of `getD`.
+pub record Sought {A : Type 0} (xs : List A) (d : A) (place : ℕ) (x : A) : Type 0 where
+  pub inside : place < length xs
+  pub is : getD xs place d ≡ x
+
+-- It stands in the first of two lists, or in the second.
+module _ {A : Type 0} {xs : List A} {d x : A} {place : ℕ} (s t : List A) (split : xs ≡ s ++ t) (sought : Sought xs d place x) where
+  pub sought-first : place < length s → getD s place d ≡ x
+  sought-first h = sym (List·getD-append s t d place h) ∙ ap (λ (l : List A). getD l place d) (sym split) ∙ sought .is
+
+  pub sought-second : length s ≤ place → Sought t d (place - length s) x
+  sought-second h =
+      let all : place < length s + length t = rw (split, length-append) at (sought .inside) in
+      record {
+        inside = omega arith;
+        is = sym (getD-append-right s t place d h) ∙ ap (λ (l : List A). getD l place d) (sym split) ∙ sought .is;
+      }
+
 module _ {A B C : Type 0} where
   pub each-map : (f : B → List C) (g : A → B) (xs : List A) → each (map g xs) f ≡ each xs (λ x. f (g x))
   each-map f g [] = refl
@@ -109,6 +133,16 @@ module _ {A B C : Type 0} where
   pub map-each : (g : B → C) (f : A → List B) (xs : List A) → map g (each xs f) ≡ each xs (λ x. map g (f x))
   map-each g f [] = refl
   map-each g f (x ∷ xs) = map-append g (f x) (each xs f) ∙ ap (λ t. map g (f x) ++ t) (map-each g f xs)
+
+-- The lengths of all blocks, together.
+abbrev pub total : {A : Type 0} → (A → ℕ) → List A → ℕ
+total size [] = 0
+total size (x ∷ xs) = size x + total size xs
+
+module _ {A B : Type 0} where
+  pub length-total : (f : A → List B) (xs : List A) → length (each xs f) ≡ total (λ x. length (f x)) xs
+  length-total f [] = refl
+  length-total f (x ∷ xs) = length-append (f x) (each xs f) ∙ ap (λ (m : ℕ). length (f x) + m) (length-total f xs)
 
 pub factor-pos : (a j m : ℕ) → j < a * m → 0 < m
 factor-pos a j zero h = absurd (omega (arith, mul-zero a))
@@ -138,8 +172,7 @@ module _ {A B : Type 0} (f : A → List B) (m : ℕ) (g : A → ℕ → B) (e : 
 
 -- The lengths of i blocks from block a on, together.
 abbrev pub before : (ℕ → ℕ) → ℕ → ℕ → ℕ
-before size a zero = 0
-before size a (suc i) = size a + before size (suc a) i
+before size a i = total size (numbers a i)
 
 -- What stands at place j of m blocks from block a on, where `at k` says what stands in block k; e behind them all.
 abbrev pub seek : {B : Type 0} → (ℕ → ℕ) → (ℕ → ℕ → B) → B → ℕ → ℕ → ℕ → B

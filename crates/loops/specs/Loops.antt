@@ -1,4 +1,4 @@
--- The loops of the list's definition as lists: rising numbers, all results of an inner loop in order, and what passes a test.
+-- Loops as lists: rising numbers, all results of an inner loop in order, and what passes a test.
 use Prim.Native.Nat.{ℕ, zero, suc}
 use mathlib.Core.Bool.{Bool, cond}
 use mathlib.Core.List.{List, [], _∷_, _++_}

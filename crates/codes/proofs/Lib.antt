@@ -1,0 +1,4 @@
+pub mod Sets
+pub mod Rows
+pub mod Codes
+pub mod Halves

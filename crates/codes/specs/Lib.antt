@@ -1,0 +1,3 @@
+pub mod Sets
+pub mod Codes
+pub mod Claims

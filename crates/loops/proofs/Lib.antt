@@ -1,0 +1,5 @@
+pub mod Examples
+pub mod Loops
+pub mod Entries
+pub mod Members
+pub mod Rising
