@@ -4,8 +4,8 @@ use borrow.Author.Tests.{lt-ltb, le-ltb}
 use Rattle.trial.specs.Trial.{anyUnprintable}
 use Rattle.trial.proofs.Flags.{denied, upheld}
 use borrow.Author.Needs.{needs}
-use Rattle.trial_writer.proofs.writer.check_name.Statement.{statement}
-use Rattle.trial_writer.proofs.writer.check_name.Tie as tie
+use Rattle.trial_writer.proofs.checks.check_name.Statement.{statement}
+use Rattle.trial_writer.proofs.checks.check_name.Tie as tie
 
 returns : tie.Need-returns
 returns c = rw (lt-ltb 40 (length (c .before .before .args .name .now)) (c .if1 .taken))

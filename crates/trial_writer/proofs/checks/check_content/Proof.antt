@@ -1,31 +1,37 @@
--- `check_content` meets its contract: the head, the lists and the name are refused for their causes, one list after the other.
+-- `check_content` meets its contract: the head, the lists and the name are refused for their causes, one after the other.
 use mathlib.Core.Path.{_≡_, sym, ap, _∙_}
 use mathlib.Core.Bool.{false}
-use mathlib.Core.List.{[]}
+use mathlib.Core.List.{[], _∷_}
 use Prim.Native.Nat.{_^_}
 use Rattle.reply.specs.Reply.{served, unless}
-use Rattle.reply.proofs.Order.{passed, failed, none-applies}
+use Rattle.reply.proofs.Order.{NoneApplies, passed, failed, none-applies}
 use Rattle.poly.specs.Limits.{outside}
 use Rattle.poly.specs.Replies.{countReply, checkedReply}
+use Rattle.trial.specs.Rules.{today}
 use Rattle.trial.specs.Trial.{Trial, trialFrom, headCauses}
 use Rattle.trial.specs.Replies.{listCauses, nameCauses, bodyCauses, contentCauses}
 use Rattle.trial.proofs.Order.{order-there, order-is}
 use borrow.Author.Needs.{needs}
-use Rattle.trial_writer.proofs.writer.check_content.Statement.{statement}
-use Rattle.trial_writer.proofs.writer.check_content.Tie as tie
+use Rattle.trial_writer.proofs.checks.check_content.Statement.{statement}
+use Rattle.trial_writer.proofs.checks.check_content.Tie as tie
 
 abbrev content : tie.Start → Trial
-content c = let a = c .args in trialFrom (a .degree) (a .f) (a .g) (a .powers .now) (a .forces .now) (a .name .now)
+content c =
+    let a = c .args in
+    trialFrom (a .version) (a .degree) (a .f ∷ a .g ∷ a .h ∷ []) (a .powers .now ∷ a .forces .now ∷ a .times .now ∷ []) (a .name .now)
 
 -- The function's entry, from where the head passed.
 abbrev entry : tie.After-enum-told → tie.Start
-entry c = c .before .before .before .before .before .before
+entry c = c .before .before .before .before .before .before .before
 
-head-passed : (c : tie.After-enum-told) → served [] ≡ unless (headCauses (content (entry c) .head)) (served [])
+head-passed : (c : tie.After-enum-told) → served [] ≡ unless (headCauses today (content (entry c) .head)) (served [])
 head-passed c = sym (ap checkedReply (c .enum-told .given .1)) ∙ c .before .before .check-head .ensures
 
+head-clear : (c : tie.After-enum-told) → NoneApplies (headCauses today (content (entry c) .head))
+head-clear c = none-applies (headCauses today (content (entry c) .head)) [] [] (sym (head-passed c))
+
 degree-told : (c : tie.After-enum-told) → outside 2 6 (entry c .args .degree) ≡ false
-degree-told c = none-applies (headCauses (content (entry c) .head)) [] [] (sym (head-passed c)) .0
+degree-told c = head-clear c .1 .0
 
 order-told : (c : tie.After-order2) → c .order2 .given .0 .0 ≡ 2 ^ entry (c .before .before .before) .args .degree
 order-told c =
@@ -39,12 +45,15 @@ returns c =
     let refusal = sym (ap countReply (c .enum-told2 .given .1)) ∙ c .before .before .order .ensures in
     absurd (order-there (entry head .args .degree) (degree-told head) refusal)
 
+check-lists-requires : tie.Need-check-lists-requires
+check-lists-requires c κs = head-clear (c .before .before .before .before) .0
+
 returns-2 : tie.Need-returns-2
 unfolding contentCauses
 returns-2 c =
-    let t = content (c .before .before .before .before .before .before .before) in
+    let t = content (c .before .before .before .before .before .before .before .before) in
     let refusal = sym (ap checkedReply (c .before .why .given .1)) ∙ c .before .before .before .check-head .ensures in
-    failed (bodyCauses t) (served []) (headCauses (t .head)) refusal
+    failed (bodyCauses t) (served []) (headCauses today (t .head)) refusal
 
 returns-3 : tie.Need-returns-3
 unfolding contentCauses
@@ -54,8 +63,8 @@ returns-3 c =
     let t = content (entry head) in
     let refusal =
     rw (order-told order) at (sym (ap checkedReply (c .before .why2 .given .1)) ∙ c .before .before .before .check-lists .ensures) in
-    rw (passed (bodyCauses t) (served []) (headCauses (t .head)) (head-passed head))
-    (failed (nameCauses (t .name)) (served []) (listCauses (2 ^ t .head .degree) (t .powers) (t .forces)) refusal)
+    rw (passed (bodyCauses t) (served []) (headCauses today (t .head)) (head-passed head))
+    (failed (nameCauses (t .name)) (served []) (listCauses (2 ^ t .head .degree) (t .lists)) refusal)
 
 returns-4 : tie.Need-returns-4
 unfolding contentCauses
@@ -66,8 +75,8 @@ returns-4 c =
     let lists-passed =
     rw (order-told order) at (sym (ap checkedReply (c .before .enum-told3 .given .1)) ∙ c .before .before .before .check-lists .ensures) in
     rw (
-      passed (bodyCauses t) (served []) (headCauses (t .head)) (head-passed head),
-      passed (nameCauses (t .name)) (served []) (listCauses (2 ^ t .head .degree) (t .powers) (t .forces)) lists-passed,
+      passed (bodyCauses t) (served []) (headCauses today (t .head)) (head-passed head),
+      passed (nameCauses (t .name)) (served []) (listCauses (2 ^ t .head .degree) (t .lists)) lists-passed,
     )
     (c .check-name .ensures)
 
@@ -82,7 +91,7 @@ check-content-spec =
     (λ c. search needs)
     (λ c. search needs)
     returns
-    (λ c κs. search needs)
+    check-lists-requires
     (λ c. search needs)
     (λ c. search needs)
     (λ c κs. search needs)
