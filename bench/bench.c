@@ -21,27 +21,30 @@ enum { LIBRARY, PLAIN };
 /* How many times the plain C's time a call may take, where no other goal is set. */
 #define GOAL 1.3
 
-/* An input of any job: a position, a pair, a site. */
+/* How many times the time of two codes a sheet or a file of three may take. */
+#define GOAL3 1.6
+
+/* An input of any job: a position, a pair or a triple, a site. */
 typedef struct Input {
     uint64_t position;
-    uint32_t f, g, row, col;
+    uint32_t f, g, h, row, col;
 } Input;
 
-/* A trial, and its file. */
+/* A trial and its files: of version 1 and, with three codes, of version 2. */
 typedef struct Trial {
-    uint32_t f, g;
-    uint16_t powers[64], forces[64];
-    uint8_t name[40], file[512];
-    size_t name_length, length;
+    uint32_t f, g, h;
+    uint16_t powers[64], forces[64], times[64];
+    uint8_t name[40], files[2][640];
+    size_t name_length, lengths[2];
 } Trial;
 
 /* What a call answers, and the memory that it is lent, which both sides have at the same place of a cache line. */
 typedef struct Answer {
-    uint32_t status, degree, codes[3], next[2], divisor, quotients[DW_CHAIN_ROOM];
+    uint32_t status, version, degree, codes[3], next[2], divisor, quotients[DW_CHAIN_ROOM];
     uint64_t position, positions, marks[DW_MARKS], counts[DW_BONDERS];
     size_t count, offset;
-    _Alignas(64) uint16_t powers[DW_LEVELS_ROOM], forces[DW_LEVELS_ROOM];
-    _Alignas(64) uint8_t bytes[DW_SHEET_ROOM];
+    _Alignas(64) uint16_t powers[DW_LEVELS_ROOM], forces[DW_LEVELS_ROOM], times[DW_LEVELS_ROOM];
+    _Alignas(64) uint8_t bytes[DW_SHEET3_ROOM];
 } Answer;
 
 static uint32_t degree;
@@ -94,11 +97,14 @@ static void prepare_rising(void)
         inputs[i].position = (length / 2 + i) % length;
 }
 
-/* Random positions of the list of triples. */
+/* Random positions of the list of triples, and the triples that stand there. */
 static void prepare_triples(void)
 {
-    for (size_t i = 0; i < INPUTS; i++)
-        inputs[i].position = random_below(plain_all_triples[degree]);
+    for (size_t i = 0; i < INPUTS; i++) {
+        Input *in = &inputs[i];
+        in->position = random_below(plain_all_triples[degree]);
+        plain_triple_at(degree, in->position, &in->f, &in->g, &in->h);
+    }
 }
 
 /* Two random odd codes, with or without a common factor. */
@@ -121,30 +127,54 @@ static void random_levels(uint16_t *levels, int rising)
     }
 }
 
-/* Random trials, with names of 8 to 40 letters. */
-static void make_trials(int rising)
+/* Writes the file of a version. */
+static void make_file(Trial *t, uint32_t version)
 {
-    prepare_random();
+    plain_write(version, degree, t->f, t->g, t->h, t->powers, 64, t->forces, 64, t->times, 64, t->name, t->name_length,
+                t->files[version - 1], sizeof t->files[version - 1], &t->lengths[version - 1]);
+}
+
+/* Random trials of the codes of the inputs, with names of 8 to 40 letters. */
+static void make_trials(int rising, uint32_t version)
+{
     for (size_t i = 0; i < TRIALS; i++) {
         Trial *t = &trials[i];
         t->f = inputs[i].f;
         t->g = inputs[i].g;
+        t->h = inputs[i].h;
         random_levels(t->powers, rising);
         random_levels(t->forces, rising);
+        if (version == 2)
+            random_levels(t->times, rising);
         t->name_length = 8 + random_below(33);
         memset(t->name, 'a' + (int)(i % 26), t->name_length);
-        plain_write(degree, t->f, t->g, t->powers, 64, t->forces, 64, t->name, t->name_length, t->file, sizeof t->file, &t->length);
+        for (uint32_t v = 1; v <= version; v++)
+            make_file(t, v);
     }
 }
 
 static void prepare_trials(void)
 {
-    make_trials(1);
+    prepare_random();
+    make_trials(1, 1);
 }
 
 static void prepare_shuffled(void)
 {
-    make_trials(0);
+    prepare_random();
+    make_trials(0, 1);
+}
+
+static void prepare_trials2(void)
+{
+    prepare_triples();
+    make_trials(1, 2);
+}
+
+static void prepare_shuffled2(void)
+{
+    prepare_triples();
+    make_trials(0, 2);
 }
 
 /* The calls of both sides, and for each job a loop over a range of the inputs. */
@@ -162,10 +192,12 @@ static uint32_t (*const set_mark[SIDES])(dw_walk *, uint32_t) = {dw_set_mark, pl
 static uint32_t (*const go_back[SIDES])(dw_walk *, uint32_t) = {dw_go_back, plain_go_back};
 static uint32_t (*const site[SIDES])(uint32_t, uint32_t, uint32_t, uint32_t, uint32_t, uint32_t *, uint32_t *) = {dw_site, plain_site};
 static uint32_t (*const sheet[SIDES])(uint32_t, uint32_t, uint32_t, uint8_t *, size_t) = {dw_sheet, plain_sheet};
-static uint32_t (*const read_file[SIDES])(const uint8_t *, size_t, uint16_t *, size_t, uint16_t *, size_t, uint32_t *, uint32_t *,
-                                          uint32_t *, size_t *, size_t *) = {dw_read, plain_read};
-static uint32_t (*const write_file[SIDES])(uint32_t, uint32_t, uint32_t, const uint16_t *, size_t, const uint16_t *, size_t,
-                                           const uint8_t *, size_t, uint8_t *, size_t, size_t *) = {dw_write, plain_write};
+static uint32_t (*const sheet3[SIDES])(uint32_t, uint32_t, uint32_t, uint32_t, uint8_t *, size_t) = {dw_sheet3, plain_sheet3};
+static uint32_t (*const read_file[SIDES])(const uint8_t *, size_t, uint16_t *, size_t, uint16_t *, size_t, uint16_t *, size_t, uint32_t *,
+                                          uint32_t *, uint32_t *, size_t *, size_t *, uint32_t *, uint32_t *) = {dw_read, plain_read};
+static uint32_t (*const write_file[SIDES])(uint32_t, uint32_t, uint32_t, uint32_t, uint32_t, const uint16_t *, size_t, const uint16_t *,
+                                           size_t, const uint16_t *, size_t, const uint8_t *, size_t, uint8_t *, size_t,
+                                           size_t *) = {dw_write, plain_write};
 
 static void run_pair_at(int side, size_t from, size_t to)
 {
@@ -326,26 +358,71 @@ static void run_sheet(int side, size_t from, size_t to)
         a->status = sheet[side](degree, inputs[i].f, inputs[i].g, a->bytes, sizeof a->bytes);
 }
 
-static void run_read(int side, size_t from, size_t to)
+static void run_sheet3(int side, size_t from, size_t to)
 {
     Answer *a = &answers[side];
     for (size_t i = from; i < to; i++)
-        a->status = read_file[side](trials[i].file, trials[i].length, a->powers, DW_LEVELS_ROOM, a->forces, DW_LEVELS_ROOM, &a->degree,
-                                    &a->codes[0], &a->codes[1], &a->offset, &a->count);
+        a->status = sheet3[side](degree, inputs[i].f, inputs[i].g, inputs[i].h, a->bytes, sizeof a->bytes);
+}
+
+static inline void read_version(uint32_t version, int side, Answer *a, size_t from, size_t to)
+{
+    for (size_t i = from; i < to; i++)
+        a->status = read_file[side](trials[i].files[version - 1], trials[i].lengths[version - 1], a->powers, DW_LEVELS_ROOM, a->forces,
+                                    DW_LEVELS_ROOM, a->times, DW_LEVELS_ROOM, &a->degree, &a->codes[0], &a->codes[1], &a->offset,
+                                    &a->count, &a->version, &a->codes[2]);
+}
+
+static void run_read(int side, size_t from, size_t to)
+{
+    read_version(1, side, &answers[side], from, to);
+}
+
+static void run_read2(int side, size_t from, size_t to)
+{
+    read_version(2, side, &answers[side], from, to);
+}
+
+static inline void write_version(uint32_t version, int side, Answer *a, size_t from, size_t to)
+{
+    for (size_t i = from; i < to; i++) {
+        const Trial *t = &trials[i];
+        a->status = write_file[side](version, degree, t->f, t->g, t->h, t->powers, 64, t->forces, 64, t->times, 64, t->name,
+                                     t->name_length, a->bytes, sizeof a->bytes, &a->count);
+    }
 }
 
 static void run_write(int side, size_t from, size_t to)
 {
-    Answer *a = &answers[side];
-    for (size_t i = from; i < to; i++) {
-        const Trial *t = &trials[i];
-        a->status = write_file[side](degree, t->f, t->g, t->powers, 64, t->forces, 64, t->name, t->name_length, a->bytes,
-                                     sizeof a->bytes, &a->count);
-    }
+    write_version(1, side, &answers[side], from, to);
 }
 
-/* A job: how its inputs are made and run, how many there are, whether it is timed at degrees 4, 11, 21, 31 or at a sheet's, and how many
- * times the plain C's time it may take. */
+static void run_write2(int side, size_t from, size_t to)
+{
+    write_version(2, side, &answers[side], from, to);
+}
+
+/* The library twice: with three codes, and in the plain C's place with two of them, on the same inputs. */
+static void run_read_both(int side, size_t from, size_t to)
+{
+    read_version(side == LIBRARY ? 2 : 1, LIBRARY, &answers[side], from, to);
+}
+
+static void run_write_both(int side, size_t from, size_t to)
+{
+    write_version(side == LIBRARY ? 2 : 1, LIBRARY, &answers[side], from, to);
+}
+
+static void run_sheet_both(int side, size_t from, size_t to)
+{
+    Answer *a = &answers[side];
+    for (size_t i = from; i < to; i++)
+        a->status = side == LIBRARY ? dw_sheet3(degree, inputs[i].f, inputs[i].g, inputs[i].h, a->bytes, sizeof a->bytes)
+                                    : dw_sheet(degree, inputs[i].f, inputs[i].g, a->bytes, sizeof a->bytes);
+}
+
+/* A job: how its inputs are made and run, how many there are, whether it is timed at degrees 4, 11, 21, 31 or at so many of a sheet's, the
+ * highest last, and how many times the plain C's time it may take. */
 typedef struct Job {
     const char *name;
     void (*prepare)(void);
@@ -370,10 +447,24 @@ static const Job jobs[] = {
     {"site", prepare_random, run_site, INPUTS, 0, GOAL},
     {"triple at, random", prepare_triples, run_triple_at, INPUTS, 1, GOAL},
     {"sheet", prepare_random, run_sheet, TRIALS, 1, GOAL},
+    {"sheet3", prepare_triples, run_sheet3, TRIALS, 4, GOAL},
     {"read", prepare_trials, run_read, TRIALS, 1, GOAL},
     {"write", prepare_trials, run_write, TRIALS, 1, GOAL},
     {"read, shuffled", prepare_shuffled, run_read, TRIALS, 1, GOAL},
     {"write, shuffled", prepare_shuffled, run_write, TRIALS, 1, GOAL},
+    {"read, version 2", prepare_trials2, run_read2, TRIALS, 1, GOAL},
+    {"write, version 2", prepare_trials2, run_write2, TRIALS, 1, GOAL},
+    {"read, version 2, shuffled", prepare_shuffled2, run_read2, TRIALS, 1, GOAL},
+    {"write, version 2, shuffled", prepare_shuffled2, run_write2, TRIALS, 1, GOAL},
+};
+
+/* Three codes and two: answers of different kinds, which the jobs above compare. */
+static const Job three_to_two[] = {
+    {"sheet3 to sheet", prepare_triples, run_sheet_both, TRIALS, 4, GOAL3},
+    {"read, version 2 to 1", prepare_trials2, run_read_both, TRIALS, 1, GOAL3},
+    {"write, version 2 to 1", prepare_trials2, run_write_both, TRIALS, 1, GOAL3},
+    {"read, version 2 to 1, shuffled", prepare_shuffled2, run_read_both, TRIALS, 1, GOAL3},
+    {"write, version 2 to 1, shuffled", prepare_shuffled2, run_write_both, TRIALS, 1, GOAL3},
 };
 
 /* What the rounds gave: medians in nanoseconds, of each side and of the rounds' differences; the median of the rounds' ratios, and how far
@@ -404,7 +495,7 @@ static double median(double *values, size_t rounds)
 
 static void stop(const char *what)
 {
-    printf("%s, degree %" PRIu32 ": the two sides differ\n", what, degree);
+    printf("%s, degree %" PRIu32 ": the two sides differ, or a call is not served\n", what, degree);
     exit(1);
 }
 
@@ -586,8 +677,8 @@ typedef struct Summary {
 static Summary show_job(const Job *job)
 {
     Summary s = {0, 0, 0};
-    for (int i = 0; i < (job->sheets ? 1 : 4); i++) {
-        Line line = show_line(job, job->sheets ? SHEET_DEGREE : degrees[i]);
+    for (int i = 0; i < (job->sheets ? job->sheets : 4); i++) {
+        Line line = show_line(job, job->sheets ? (uint32_t)(SHEET_DEGREE + 1 + i - job->sheets) : degrees[i]);
         s.worst = line.ratio > s.worst ? line.ratio : s.worst;
         s.spread = line.spread > s.spread ? line.spread : s.spread;
         s.longest = line.library > s.longest ? line.library : s.longest;
@@ -595,7 +686,7 @@ static Summary show_job(const Job *job)
     return s;
 }
 
-enum { JOBS = sizeof jobs / sizeof *jobs };
+enum { JOBS = sizeof jobs / sizeof *jobs, THREES = sizeof three_to_two / sizeof *three_to_two };
 
 static void show_jobs(Summary *summaries)
 {
@@ -642,6 +733,21 @@ static Kept show_kept(void)
     return kept;
 }
 
+/* What a third code costs; gives the ratio of each job at the highest degree. Every call is served. */
+static void show_threes(double *ratios)
+{
+    printf("\n| job | degree | three codes ns | two codes ns | ratio |\n|---|---|---|---|---|\n");
+    for (int i = 0; i < THREES; i++)
+        for (degree = SHEET_DEGREE + 1 - (uint32_t)three_to_two[i].sheets; degree <= SHEET_DEGREE; degree++) {
+            three_to_two[i].prepare();
+            Line line = time_job(&three_to_two[i]);
+            if (answers[LIBRARY].status != DW_SERVED || answers[PLAIN].status != DW_SERVED)
+                stop(three_to_two[i].name);
+            printf("| %s | %" PRIu32 " | %.1f | %.1f | %.2f |\n", three_to_two[i].name, degree, line.library, line.plain, line.ratio);
+            ratios[i] = line.ratio;
+        }
+}
+
 static void show_lists(void)
 {
     printf("\n| whole list of degree %d, into warm memory | ns a listed pair | to the C filter |\n|---|---|---|\n", LIST_DEGREE);
@@ -659,7 +765,7 @@ static double longest_of(const Summary *summaries, void (*run)(int, size_t, size
     return summaries[job].longest;
 }
 
-static void show_goals(const Summary *summaries, double beyond, Kept kept)
+static void show_goals(const Summary *summaries, double beyond, Kept kept, const double *threes)
 {
     printf("\nThe worst ratio of each job, and its goal:\n\n");
     for (int job = 0; job < JOBS; job++)
@@ -668,6 +774,9 @@ static void show_goals(const Summary *summaries, double beyond, Kept kept)
     show_goal("worst degree", beyond, 3);
     printf("\nA triple at a random position, in nanoseconds:\n\n");
     show_goal("degree 6", longest_of(summaries, run_triple_at), 110);
+    printf("\nThree codes to two, at degree %d:\n\n", SHEET_DEGREE);
+    for (int i = 0; i < THREES; i++)
+        show_goal(three_to_two[i].name, threes[i], three_to_two[i].goal);
     printf("\nA look, in nanoseconds; and eight looks to the pair call, at degree 31:\n\n");
     show_goal("worst degree", kept.most, 12);
     show_goal("ratio", 8 * kept.part, 1);
@@ -683,14 +792,16 @@ static void show_goals(const Summary *summaries, double beyond, Kept kept)
 int main(void)
 {
     static Summary summaries[JOBS];
+    double threes[THREES] = {0};
     plain_tables();
     show_jobs(summaries);
     double beyond = show_second_list();
     Kept kept = show_kept();
+    show_threes(threes);
     shuffle();
     compare_lists();
     time_lists();
     show_lists();
-    show_goals(summaries, beyond, kept);
+    show_goals(summaries, beyond, kept, threes);
     return 0;
 }

@@ -429,6 +429,24 @@ static inline uint32_t plain_head(uint32_t n, uint32_t f, uint32_t g)
     return why != DW_SERVED ? why : !plain_coprime(f, g) ? DW_REFUSED_COMMON_FACTOR : DW_SERVED;
 }
 
+/* Whether each two of three odd codes of degree n have no common factor, by the table. */
+static inline int plain_coprime3(uint32_t n, uint32_t f, uint32_t g, uint32_t h)
+{
+    uint32_t first = 1u << (n - 1), of_f = plain_coprimes[f / 2], of_g = plain_coprimes[g / 2];
+    return of_f >> (g / 2 - first) & of_f >> (h / 2 - first) & of_g >> (h / 2 - first) & 1;
+}
+
+/* The same as plain_head for three codes. */
+static inline uint32_t plain_head3(uint32_t n, uint32_t f, uint32_t g, uint32_t h)
+{
+    if (n < 2 || n > 6)
+        return DW_REFUSED_SHEET_DEGREE;
+    uint32_t why = plain_codes(n, f, g);
+    if (why != DW_SERVED || (why = plain_code(n, h)) != DW_SERVED)
+        return why;
+    return !plain_coprime3(n, f, g, h) ? DW_REFUSED_COMMON_FACTOR : DW_SERVED;
+}
+
 /* Doubles a table of parts: behind the `count` that stand there, the same with `part` added. */
 static inline void plain_double(uint16_t *parts, uint32_t count, uint32_t part)
 {
@@ -472,6 +490,50 @@ PLAIN_CALL plain_sheet(uint32_t n, uint32_t f, uint32_t g, uint8_t *sheet, size_
     return DW_SERVED;
 }
 
+/* Three symbols, h's in the third byte, of the row (down = 0) or column (down = n) in which one bit is 1. */
+static inline uint32_t plain_part3(uint32_t n, uint32_t f, uint32_t g, uint32_t h, uint32_t bit, uint32_t down)
+{
+    uint32_t mask = (1u << n) - 1;
+    return (h << bit >> down & mask) << 16 | (g << bit >> down & mask) << 8 | (f << bit >> down & mask);
+}
+
+static inline void plain_add(uint8_t *restrict to, const uint8_t *restrict from, const uint8_t *restrict added, size_t bytes)
+{
+    for (size_t i = 0; i < bytes; i++)
+        to[i] = from[i] ^ added[i];
+}
+
+/* Doubles a sheet of three: behind the bytes that stand there, the same with `part` added to each site, 16 sites at once. */
+static inline void plain_double3(uint8_t *sheet, size_t bytes, uint64_t part)
+{
+    const uint64_t words[3] = {part | part << 24 | part << 48, part >> 16 | part << 8 | part << 32 | part << 56,
+                               part >> 8 | part << 16 | part << 40};
+    uint8_t added[48];
+    memcpy(added, words, 24);
+    memcpy(added + 24, words, 24);
+    if (bytes < 48)
+        plain_add(sheet + bytes, sheet, added, bytes);
+    else
+        for (size_t at = 0; at < bytes; at += 48)
+            plain_add(sheet + bytes + at, sheet + at, added, 48);
+}
+
+/* By doubling: site 0, then for each bit of the column the rest of row 0, then for each bit of the row the rows. */
+PLAIN_CALL plain_sheet3(uint32_t n, uint32_t f, uint32_t g, uint32_t h, uint8_t *sheet, size_t room)
+{
+    uint32_t why = plain_head3(n, f, g, h);
+    if (why != DW_SERVED)
+        return why;
+    if (room < (size_t)3 << 2 * n)
+        return DW_REFUSED_SLICE_LENGTH;
+    memset(sheet, 0, 3);
+    for (uint32_t bit = 0; bit < n; bit++)
+        plain_double3(sheet, (size_t)3 << bit, plain_part3(n, f, g, h, bit, n));
+    for (uint32_t bit = 0; bit < n; bit++)
+        plain_double3(sheet, (size_t)3 << (n + bit), plain_part3(n, f, g, h, bit, 0));
+    return DW_SERVED;
+}
+
 /* The number at *at, which moves behind it. */
 static inline uint32_t plain_number(const uint8_t **at, const uint8_t *end, uint32_t *number)
 {
@@ -489,23 +551,23 @@ static inline uint32_t plain_number(const uint8_t **at, const uint8_t *end, uint
     return DW_REFUSED_NUMBER_FORM;
 }
 
-/* The fields before the levels. */
-static inline uint32_t plain_read_head(const uint8_t **at, const uint8_t *end, uint32_t *n, uint32_t *f, uint32_t *g)
+/* The fields before the levels; version 1 has two codes. */
+static inline uint32_t plain_read_head(const uint8_t **at, const uint8_t *end, uint32_t *version, uint32_t *n, uint32_t *codes)
 {
-    uint32_t version, why;
-    if ((why = plain_number(at, end, &version)) != DW_SERVED)
+    uint32_t why;
+    if ((why = plain_number(at, end, version)) != DW_SERVED)
         return why;
-    if (version != 1)
+    if (*version != 1 && *version != 2)
         return DW_REFUSED_VERSION;
     if ((why = plain_number(at, end, n)) != DW_SERVED)
         return why;
     if (*n < 2 || *n > 6)
         return DW_REFUSED_SHEET_DEGREE;
-    if ((why = plain_number(at, end, f)) != DW_SERVED || (why = plain_code(*n, *f)) != DW_SERVED)
-        return why;
-    if ((why = plain_number(at, end, g)) != DW_SERVED || (why = plain_code(*n, *g)) != DW_SERVED)
-        return why;
-    return !plain_coprime(*f, *g) ? DW_REFUSED_COMMON_FACTOR : DW_SERVED;
+    for (uint32_t i = 0; i <= *version; i++)
+        if ((why = plain_number(at, end, &codes[i])) != DW_SERVED || (why = plain_code(*n, codes[i])) != DW_SERVED)
+            return why;
+    int coprime = *version == 1 ? plain_coprime(codes[0], codes[1]) : plain_coprime3(*n, codes[0], codes[1], codes[2]);
+    return !coprime ? DW_REFUSED_COMMON_FACTOR : DW_SERVED;
 }
 
 /* Whether levels rise strictly. */
@@ -583,28 +645,33 @@ static inline uint32_t plain_read_name(const uint8_t **at, const uint8_t *end, u
 
 /* The levels are kept aside until the whole file is found right. */
 PLAIN_CALL plain_read(const uint8_t *file, size_t length, uint16_t *powers, size_t powers_room, uint16_t *forces, size_t forces_room,
-                      uint32_t *degree, uint32_t *f, uint32_t *g, size_t *name_offset, size_t *name_length)
+                      uint16_t *times, size_t times_room, uint32_t *degree, uint32_t *f, uint32_t *g, size_t *name_offset,
+                      size_t *name_length, uint32_t *version, uint32_t *h)
 {
     const uint8_t *at = file, *end = file + length;
-    uint16_t levels[2][DW_LEVELS_ROOM];
-    uint32_t n, code_f, code_g, size, why;
-    if (powers_room < DW_LEVELS_ROOM || forces_room < DW_LEVELS_ROOM)
+    uint16_t levels[3][DW_LEVELS_ROOM];
+    uint32_t v, n, codes[3], size, why;
+    if (powers_room < DW_LEVELS_ROOM || forces_room < DW_LEVELS_ROOM || times_room < DW_LEVELS_ROOM)
         return DW_REFUSED_SLICE_LENGTH;
-    if ((why = plain_read_head(&at, end, &n, &code_f, &code_g)) != DW_SERVED)
+    if ((why = plain_read_head(&at, end, &v, &n, codes)) != DW_SERVED)
         return why;
-    if ((why = plain_read_levels(&at, end, 1u << n, levels[0])) != DW_SERVED)
-        return why;
-    if ((why = plain_read_levels(&at, end, 1u << n, levels[1])) != DW_SERVED)
-        return why;
+    for (uint32_t list = 0; list <= v; list++)
+        if ((why = plain_read_levels(&at, end, 1u << n, levels[list])) != DW_SERVED)
+            return why;
     if ((why = plain_read_name(&at, end, &size)) != DW_SERVED)
         return why;
     memcpy(powers, levels[0], sizeof(uint16_t) << n);
     memcpy(forces, levels[1], sizeof(uint16_t) << n);
+    if (v == 2) {
+        memcpy(times, levels[2], sizeof(uint16_t) << n);
+        *h = codes[2];
+    }
     *degree = n;
-    *f = code_f;
-    *g = code_g;
+    *f = codes[0];
+    *g = codes[1];
     *name_offset = (size_t)(at - file);
     *name_length = size;
+    *version = v;
     return DW_SERVED;
 }
 
@@ -626,23 +693,29 @@ static inline uint8_t *plain_put_levels(uint8_t *at, const uint16_t *levels, siz
 }
 
 /* The file is made aside, where the longest has room, and copied if it fits. */
-PLAIN_CALL plain_write(uint32_t n, uint32_t f, uint32_t g, const uint16_t *powers, size_t powers_count, const uint16_t *forces,
-                       size_t forces_count, const uint8_t *name, size_t name_length, uint8_t *file, size_t room, size_t *length)
+PLAIN_CALL plain_write(uint32_t version, uint32_t n, uint32_t f, uint32_t g, uint32_t h, const uint16_t *powers, size_t powers_count,
+                       const uint16_t *forces, size_t forces_count, const uint16_t *times, size_t times_count, const uint8_t *name,
+                       size_t name_length, uint8_t *file, size_t room, size_t *length)
 {
-    uint8_t made[4 + 2 * 64 * 3 + 1 + 40], *at = made;
-    uint32_t why = plain_head(n, f, g);
+    uint8_t made[5 + 3 * 64 * 3 + 1 + 40], *at = made;
+    if (version != 1 && version != 2)
+        return DW_REFUSED_VERSION;
+    int third = version == 2;
+    uint32_t why = third ? plain_head3(n, f, g, h) : plain_head(n, f, g);
     if (why != DW_SERVED)
         return why;
-    if (powers_count != (size_t)1 << n || forces_count != (size_t)1 << n)
+    if (powers_count != (size_t)1 << n || forces_count != (size_t)1 << n || (third && times_count != (size_t)1 << n))
         return DW_REFUSED_SLICE_LENGTH;
-    if (!plain_distinct(powers, powers_count) || !plain_distinct(forces, forces_count))
+    if (!plain_distinct(powers, powers_count) || !plain_distinct(forces, forces_count) || (third && !plain_distinct(times, times_count)))
         return DW_REFUSED_LEVEL_REPEATED;
     if (name_length > 40)
         return DW_REFUSED_NAME_LENGTH;
     if (!plain_printable(name, name_length))
         return DW_REFUSED_NAME_BYTE;
-    at = plain_put(plain_put(plain_put(plain_put(at, 1), n), f), g);
+    at = plain_put(plain_put(plain_put(plain_put(at, version), n), f), g);
+    at = third ? plain_put(at, h) : at;
     at = plain_put_levels(plain_put_levels(at, powers, powers_count), forces, forces_count);
+    at = third ? plain_put_levels(at, times, times_count) : at;
     at = plain_put(at, (uint32_t)name_length);
     memcpy(at, name, name_length);
     at += name_length;

@@ -1,14 +1,35 @@
-/* A console's job: start a walk, draw pairs for two bonders, come back, make the sheet, write the trial file and read it back. */
+/* A console's job: start a walk, draw pairs for two bonders, come back, make the sheet, write the trial file and read it back. Then a trial
+ * of version 2, which has a bond time at each site as well. */
 #include "dinnowell.h"
 
 #include <inttypes.h>
 #include <stdio.h>
 
+static const uint8_t name[] = { 'A' };
+static const uint16_t powers[] = { 100, 110, 120, 130, 140, 150, 160, 170 }, forces[] = { 200, 220, 240, 260, 280, 300, 320, 340 };
+static const uint16_t times[] = { 90, 95, 100, 105, 110, 115, 120, 125 };
+
+/* Reads a file of either version back and says what it holds. */
+static int read_back(const uint8_t *file, size_t length)
+{
+    uint16_t levels[3][DW_LEVELS_ROOM];
+    uint32_t n = 0, f = 0, g = 0, h = 0, version = 0;
+    size_t name_offset = 0, name_length = 0;
+    uint32_t status = dw_read(file, length, levels[0], DW_LEVELS_ROOM, levels[1], DW_LEVELS_ROOM, levels[2], DW_LEVELS_ROOM, &n, &f, &g,
+                              &name_offset, &name_length, &version, &h);
+    if (status != DW_SERVED)
+        return 0;
+    printf("file of %zu bytes, version %" PRIu32 ", degree %" PRIu32 ", name %.*s", length, version, n, (int)name_length,
+           (const char *)file + name_offset);
+    if (version == 2)
+        printf(", first time %u, third code %" PRIu32, (unsigned)levels[2][0], h);
+    printf("\n");
+    return 1;
+}
+
 int main(void)
 {
-    static const uint8_t name[] = { 'A' };
-    static const uint16_t powers[] = { 100, 110, 120, 130 }, forces[] = { 200, 220, 240, 260 };
-    uint32_t n = 2, f = 0, g = 0;
+    uint32_t n = 2, f = 0, g = 0, h = 0;
 
     dw_walk walk;
     if (dw_start(n, &walk) != DW_SERVED || dw_draw(&walk, 0, &f, &g) != DW_SERVED)
@@ -21,7 +42,7 @@ int main(void)
     printf("pair %" PRIu32 " %" PRIu32 ", and back to position %" PRIu64 "\n", next_f, next_g, walk.position);
     printf("bonder 0 was given %" PRIu64 ", bonder 3 %" PRIu64 "\n", walk.counts[0], walk.counts[3]);
 
-    uint8_t sheet[32]; /* 2 * 4^n bytes */
+    uint8_t sheet[192]; /* 2 * 4^n bytes and, below, 3 * 4^n */
     if (dw_sheet(n, f, g, sheet, sizeof sheet) != DW_SERVED)
         return 1;
     for (int row = 0; row < 4; row++) {
@@ -33,15 +54,20 @@ int main(void)
 
     uint8_t file[DW_FILE_ROOM];
     size_t length = 0;
-    uint32_t status = dw_write(n, f, g, powers, 4, forces, 4, name, sizeof name, file, sizeof file, &length);
-    if (status != DW_SERVED)
+    uint32_t status = dw_write(1, n, f, g, 0, powers, 4, forces, 4, NULL, 0, name, sizeof name, file, sizeof file, &length);
+    if (status != DW_SERVED || !read_back(file, length))
         return 1;
 
-    uint16_t powers_back[DW_LEVELS_ROOM], forces_back[DW_LEVELS_ROOM];
-    size_t name_offset = 0, name_length = 0;
-    status = dw_read(file, length, powers_back, DW_LEVELS_ROOM, forces_back, DW_LEVELS_ROOM, &n, &f, &g, &name_offset, &name_length);
-    if (status != DW_SERVED)
+    /* Three codes of degree 3, and the first row of their sheet. */
+    n = 3;
+    if (dw_triple_at(n, 0, &f, &g, &h) != DW_SERVED || dw_sheet3(n, f, g, h, sheet, sizeof sheet) != DW_SERVED)
         return 1;
-    printf("file of %zu bytes, degree %" PRIu32 ", name %.*s\n", length, n, (int)name_length, (const char *)file + name_offset);
-    return 0;
+    printf("triple %" PRIu32 " %" PRIu32 " %" PRIu32 "\n", f, g, h);
+    for (int col = 0; col < 8; col++) {
+        const uint8_t *site = sheet + 3 * col;
+        unsigned time = times[site[2]];
+        printf("%u mW %u mN %u.%u ms%s", (unsigned)powers[site[0]], (unsigned)forces[site[1]], time / 10, time % 10, col < 7 ? ", " : "\n");
+    }
+    status = dw_write(2, n, f, g, h, powers, 8, forces, 8, times, 8, name, sizeof name, file, sizeof file, &length);
+    return status == DW_SERVED && read_back(file, length) ? 0 : 1;
 }

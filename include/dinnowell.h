@@ -14,7 +14,10 @@
  * n - 1 - i of the symbol is 1 if an odd number of the cells i + j are 1, over all j from 0 to n for which bit j of the code is 1. Laid
  * over each other, the squares of two codes of degree n show each pair of symbols at exactly one site if the codes are coprime, and only
  * then.
- * Positions, entries, rows, columns and symbols count from 0. The format of a trial file is in docs/SCOPE.md under "Trial file".
+ * Positions, entries, rows, columns and symbols count from 0.
+ * A trial of version 1 has two codes, f and g, and two lists of levels, powers and forces. One of version 2 has a third code, h, and a
+ * third list, bond times; its codes are a triple, so its degree is 3 to 6. The format of a trial file, of either version, is in
+ * docs/SCOPE.md under "Trial file".
  *
  * WHAT A FUNCTION ANSWERS. Every function returns DW_SERVED, the number of a refusal, or, where it says so, DW_SPENT. The refusals that a
  * function can return are listed with it, without their prefix DW_REFUSED_, in the order in which it looks for them; the first that applies
@@ -40,8 +43,8 @@
 #include <stdint.h>
 
 /* The version of this interface. MAJOR grows where a caller may have to change, MINOR where something is added. */
-#define DW_VERSION_MAJOR 5
-#define DW_VERSION_MINOR 1
+#define DW_VERSION_MAJOR 6
+#define DW_VERSION_MINOR 0
 #define DW_VERSION (1000 * DW_VERSION_MAJOR + DW_VERSION_MINOR)
 
 /*
@@ -71,11 +74,11 @@ enum {
     /* Caused by who chooses polynomials. */
     DW_REFUSED_CODE_DEGREE = 6,     /* code not of degree n */
     DW_REFUSED_CONSTANT_TERM = 7,   /* constant term 0, an even code */
-    DW_REFUSED_COMMON_FACTOR = 8,   /* f and g have a common factor */
+    DW_REFUSED_COMMON_FACTOR = 8,   /* f and g have a common factor; of three codes, any two of them */
     /* Caused by who writes the file. */
     DW_REFUSED_FILE_ENDS = 9,       /* file ends inside a number or the name, or before a field */
     DW_REFUSED_NUMBER_FORM = 10,    /* number longer than five bytes, above 4294967295, or with a needless last byte 0 */
-    DW_REFUSED_VERSION = 11,        /* version not 1 */
+    DW_REFUSED_VERSION = 11,        /* version of a trial file neither 1 nor 2 */
     DW_REFUSED_SHEET_DEGREE = 12,   /* degree outside 2 to 6, of a trial file, a sheet or the list of triples */
     DW_REFUSED_LEVEL_RANGE = 13,    /* level above 65535; dw_read alone can meet one */
     DW_REFUSED_LEVEL_REPEATED = 14, /* level equal to an earlier one of its list */
@@ -92,14 +95,15 @@ enum {
 };
 
 enum {
-    DW_MARKS = 8,         /* how many marks a walk has, numbered from 0 */
-    DW_BONDERS = 8,       /* how many bonders draw from a walk, numbered from 0 */
-    DW_CHAIN_ROOM = 32,   /* how many numbers dw_chain must be given room for */
-    DW_LEVELS_ROOM = 64,  /* how many levels dw_read must be given room for, in each list */
-    DW_SHEET_ROOM = 8192, /* bytes that hold a sheet of any degree; degree n needs 2 * 4^n */
-    DW_FILE_ROOM = 429,   /* bytes that hold any trial file */
-    DW_NAME_ROOM = 40,    /* bytes that hold any name, with no 0 behind it */
-    DW_STACK_ROOM = 8192  /* bytes of stack that hold any call: measured, not proved; dw_pairs_from takes most, some 4600 */
+    DW_MARKS = 8,           /* how many marks a walk has, numbered from 0 */
+    DW_BONDERS = 8,         /* how many bonders draw from a walk, numbered from 0 */
+    DW_CHAIN_ROOM = 32,     /* how many numbers dw_chain must be given room for */
+    DW_LEVELS_ROOM = 64,    /* how many levels dw_read must be given room for, in each of three lists */
+    DW_SHEET_ROOM = 8192,   /* bytes that hold a sheet of two codes of any degree; degree n needs 2 * 4^n */
+    DW_SHEET3_ROOM = 12288, /* bytes that hold a sheet of three codes of any degree; degree n needs 3 * 4^n */
+    DW_FILE_ROOM = 622,     /* bytes that hold any trial file; one of version 1 has at most 429 */
+    DW_NAME_ROOM = 40,      /* bytes that hold any name, with no 0 behind it */
+    DW_STACK_ROOM = 8192    /* bytes of stack that hold any call: measured, not proved; dw_pairs_from takes most, some 4600 */
 };
 
 /* The highest count of pairs given to a bonder: with it, the bonder is given no pair. No list is so long. */
@@ -232,7 +236,7 @@ DW_MUST_CHECK
 uint32_t dw_site(uint32_t n, uint32_t f, uint32_t g, uint32_t row, uint32_t col, uint32_t *first, uint32_t *second);
 
 /*
- * The sheet of f and g, codes of degree n: two bytes a site, f's symbol and then g's, row by row. In a trial the site gets
+ * The sheet of f and g, codes of degree n: two bytes a site, f's symbol and then g's, row by row. In a trial of version 1 the site gets
  * powers[f's symbol] and forces[g's symbol]. room is how many bytes sheet can hold.
  * Served: the first 2 * 4^n bytes of sheet are the sheet; row r and column c have bytes 2 * (r * 2^n + c) and the next. The bytes behind
  * the sheet are unchanged.
@@ -242,30 +246,54 @@ DW_MUST_CHECK
 uint32_t dw_sheet(uint32_t n, uint32_t f, uint32_t g, uint8_t *sheet, size_t room);
 
 /*
- * Reads a trial file, the length bytes of file. powers_room and forces_room are how many numbers powers and forces can hold.
- * Served: *degree, *f and *g are the file's. The first 2^*degree numbers of powers are its powers, in milliwatts, and those of forces its
- * forces, in millinewtons, both in the file's order, rising or not; no two of a list are equal. The numbers behind them are
- * unchanged. Its name is the *name_length bytes from file[*name_offset] on, the last of the file, at most DW_NAME_ROOM, with no 0 behind
- * them; for an empty name *name_offset is length.
- * Refused: SLICE_LENGTH if powers_room or forces_room is below DW_LEVELS_ROOM, also if the file has fewer levels. Then field by field:
- * VERSION; SHEET_DEGREE; CODE_DEGREE, CONSTANT_TERM for f, then for g; COMMON_FACTOR; LEVEL_RANGE, LEVEL_REPEATED for each power, then for
- * each force; NAME_LENGTH; FILE_ENDS, NAME_BYTE for the name; TRAILING_BYTES. Ahead of its field's own refusals, each number is refused by
- * FILE_ENDS if the file ends where the number is unfinished and has fewer than five bytes, and then by NUMBER_FORM.
+ * The sheet of f, g and h, codes of degree n: three bytes a site, f's symbol, g's and then h's, row by row. In a trial of version 2 the
+ * site gets powers[f's symbol], forces[g's symbol] and times[h's symbol]. The codes that are served are those of the list of triples; at
+ * degree 2 there are none. room is how many bytes sheet can hold.
+ * Served: the first 3 * 4^n bytes of sheet are the sheet; row r and column c have bytes 3 * (r * 2^n + c) and the next two. The bytes
+ * behind the sheet are unchanged.
+ * Refused: SHEET_DEGREE; CODE_DEGREE, CONSTANT_TERM for f, then for g, then for h; COMMON_FACTOR for any two of them; SLICE_LENGTH if room
+ * is below 3 * 4^n.
+ */
+DW_MUST_CHECK
+uint32_t dw_sheet3(uint32_t n, uint32_t f, uint32_t g, uint32_t h, uint8_t *sheet, size_t room);
+
+/*
+ * Reads a trial file of either version, the length bytes of file. powers_room, forces_room and times_room are how many numbers powers,
+ * forces and times can hold; a file of version 1 needs all three rooms too.
+ * Served: *version is 1 or 2. *degree, *f and *g are the file's. The first 2^*degree numbers of powers are its powers, in milliwatts, and
+ * those of forces its forces, in millinewtons. At version 2, *h is the file's, and the first 2^*degree numbers of times are its bond times,
+ * in tenths of a millisecond; at version 1, *h and times are unchanged, so test *version before using them. Levels are in the file's order,
+ * rising or not; no two of a list are equal. The numbers behind them are unchanged. The file's name is the *name_length bytes from
+ * file[*name_offset] on, its last, at most DW_NAME_ROOM, with no 0 behind them; for an empty name *name_offset is length.
+ * Refused: SLICE_LENGTH if powers_room, forces_room or times_room is below DW_LEVELS_ROOM, also if the file has fewer levels or no times.
+ * Then field by field: VERSION; SHEET_DEGREE; CODE_DEGREE, CONSTANT_TERM for f, then for g, and at version 2 then for h; COMMON_FACTOR for
+ * any two of the codes; LEVEL_RANGE, LEVEL_REPEATED for each power, then for each force, and at version 2 then for each time; NAME_LENGTH;
+ * FILE_ENDS, NAME_BYTE for the name; TRAILING_BYTES. Ahead of its field's own refusals, each number is refused by FILE_ENDS if the file
+ * ends where the number is unfinished and has fewer than five bytes, and then by NUMBER_FORM.
+ * Before version 6.0 this function had neither times and times_room nor version and h. Code that was compiled for that links without
+ * complaint, and must be compiled anew.
  */
 DW_MUST_CHECK
 uint32_t dw_read(const uint8_t *file, size_t length, uint16_t *powers, size_t powers_room, uint16_t *forces, size_t forces_room,
-                 uint32_t *degree, uint32_t *f, uint32_t *g, size_t *name_offset, size_t *name_length);
+                 uint16_t *times, size_t times_room, uint32_t *degree, uint32_t *f, uint32_t *g, size_t *name_offset,
+                 size_t *name_length, uint32_t *version, uint32_t *h);
 
 /*
- * Writes the trial file of degree n with the codes f and g, powers_count powers (milliwatts), forces_count forces (millinewtons) and a name
- * of name_length bytes, with no 0 behind it. room is how many bytes file can hold; DW_FILE_ROOM are always enough.
+ * Writes the trial file of a version, 1 or 2, and of degree n with the codes f and g, powers_count powers (milliwatts), forces_count forces
+ * (millinewtons) and a name of name_length bytes, with no 0 behind it; at version 2 also with the code h and times_count bond times (tenths
+ * of a millisecond). At version 1 neither h nor times nor times_count is looked at: 0, NULL and 0 will do, and what POINTERS says holds of
+ * them too. room is how many bytes file can hold; DW_FILE_ROOM are always enough.
  * Served: *length is how many bytes the file has; they are the first of file. The bytes behind them are unchanged.
- * Refused: SHEET_DEGREE; CODE_DEGREE, CONSTANT_TERM for f, then for g; COMMON_FACTOR; SLICE_LENGTH if powers_count or forces_count is not
- * 2^n; LEVEL_REPEATED for powers, then for forces; NAME_LENGTH; NAME_BYTE; SLICE_LENGTH if room is below the file's length.
+ * Refused: VERSION; SHEET_DEGREE; CODE_DEGREE, CONSTANT_TERM for f, then for g, and at version 2 then for h; COMMON_FACTOR for any two of
+ * the codes; SLICE_LENGTH if powers_count, forces_count or, at version 2, times_count is not 2^n; LEVEL_REPEATED for powers, then for
+ * forces, and at version 2 then for times; NAME_LENGTH; NAME_BYTE; SLICE_LENGTH if room is below the file's length.
+ * Before version 6.0 this function had neither version, its first argument now, nor h, times and times_count. Code that was compiled for
+ * that links without complaint, and must be compiled anew.
  */
 DW_MUST_CHECK
-uint32_t dw_write(uint32_t n, uint32_t f, uint32_t g, const uint16_t *powers, size_t powers_count, const uint16_t *forces,
-                  size_t forces_count, const uint8_t *name, size_t name_length, uint8_t *file, size_t room, size_t *length);
+uint32_t dw_write(uint32_t version, uint32_t n, uint32_t f, uint32_t g, uint32_t h, const uint16_t *powers, size_t powers_count,
+                  const uint16_t *forces, size_t forces_count, const uint16_t *times, size_t times_count, const uint8_t *name,
+                  size_t name_length, uint8_t *file, size_t room, size_t *length);
 
 /*
  * Starts a walk through the list of degree n. What stands in *walk before is not looked at.

@@ -22,8 +22,8 @@ CHECK(DW_REFUSED_FILE_ENDS == 9 && DW_REFUSED_NUMBER_FORM == 10 && DW_REFUSED_VE
 CHECK(DW_REFUSED_LEVEL_RANGE == 13 && DW_REFUSED_LEVEL_REPEATED == 14 && DW_REFUSED_NAME_LENGTH == 15 && DW_REFUSED_NAME_BYTE == 16);
 CHECK(DW_REFUSED_TRAILING_BYTES == 17 && DW_REFUSED_MARK_RANGE == 18 && DW_REFUSED_MARK_EMPTY == 19 && DW_REFUSED_BONDER_RANGE == 20);
 CHECK(DW_REFUSED_BONDER_FULL == 21 && DW_MARKS == 8 && DW_BONDERS == 8 && DW_FULL_COUNT == UINT64_C(1000000000000000000));
-CHECK(DW_CHAIN_ROOM == 32 && DW_LEVELS_ROOM == 64 && DW_SHEET_ROOM == 8192 && DW_FILE_ROOM == 429 && DW_NAME_ROOM == 40);
-CHECK(DW_STACK_ROOM == 8192 && DW_VERSION_MAJOR == 5 && DW_VERSION_MINOR == 1 && DW_VERSION == 5001);
+CHECK(DW_CHAIN_ROOM == 32 && DW_LEVELS_ROOM == 64 && DW_SHEET_ROOM == 8192 && DW_SHEET3_ROOM == 12288 && DW_FILE_ROOM == 622);
+CHECK(DW_NAME_ROOM == 40 && DW_STACK_ROOM == 8192 && DW_VERSION_MAJOR == 6 && DW_VERSION_MINOR == 0 && DW_VERSION == 6000);
 
 enum { SEED = 20261115, GUARD = 64, LARGEST = 1 << 14, SLOTS = 16 };
 
@@ -284,19 +284,47 @@ static void try_site(void)
     came_u32(1, want, want ? 0 : ref_symbol(n, g, row, col), "dw_site: second");
 }
 
+/* Three codes, of which mostly each two of the first `many` are coprime. */
+static void some_codes(uint32_t n, uint32_t codes[3], int many)
+{
+    do
+        for (int i = 0; i < 3; i++)
+            codes[i] = some_code(n);
+    while (n >= 2 && n <= 6 && draw(8) && ref_pairwise(n, codes, many) == 8);
+}
+
+/* The sheet of two or of three codes, whatever the call is given; gives what it answers. */
+static uint32_t lay(uint32_t n, const uint32_t *codes, int many, size_t room)
+{
+    static uint8_t sheet[DW_SHEET3_ROOM];
+    uint32_t want = n < 2 || n > 6 ? 12 : ref_pairwise(n, codes, many);
+    want = want ? want : room < (size_t)many << 2 * n ? 4 : 0;
+    size_t put = want ? 0 : ref_sheet(n, codes, many, sheet);
+    uint8_t *out = (uint8_t *)lend(0, room);
+    if (many == 2)
+        count(dw_sheet(n, codes[0], codes[1], out, room), want, "dw_sheet");
+    else
+        count(dw_sheet3(n, codes[0], codes[1], codes[2], out, room), want, "dw_sheet3");
+    came_back(0, sheet, put, many == 2 ? "dw_sheet: sheet" : "dw_sheet3: sheet");
+    return want;
+}
+
+static void try_lay(int many)
+{
+    uint32_t n = some_degree((uint32_t)many, 4 + 2 * (draw(16) == 0)), codes[3];
+    size_t size = n < 2 || n > 6 ? 32 : (size_t)many << 2 * n, room = draw(8) ? size + draw(3) : size - 1 - draw(8);
+    some_codes(n, codes, many);
+    lay(n, codes, many, room);
+}
+
 static void try_sheet(void)
 {
-    static uint8_t sheet[DW_SHEET_ROOM];
-    uint32_t n = some_degree(2, 4 + 2 * (draw(16) == 0)), f = some_code(n), g = some_code(n);
-    uint32_t want = n < 2 || n > 6 ? 12 : ref_coprime(n, f, g);
-    size_t size = n < 2 || n > 6 ? 32 : (size_t)2 << 2 * n, room = draw(8) ? size + draw(3) : size - 1 - draw(8), put = 0;
-    want = want ? want : room < size ? 4 : 0;
-    for (uint32_t site = 0; want == 0 && site < size / 2; site++) {
-        sheet[put++] = (uint8_t)ref_symbol(n, f, site >> n, site % (1u << n));
-        sheet[put++] = (uint8_t)ref_symbol(n, g, site >> n, site % (1u << n));
-    }
-    count(dw_sheet(n, f, g, (uint8_t *)lend(0, room), room), want, "dw_sheet");
-    came_back(0, sheet, put, "dw_sheet: sheet");
+    try_lay(2);
+}
+
+static void try_sheet3(void)
+{
+    try_lay(3);
 }
 
 /* The record where the call is served: its fields. The padding between them is anyone's. */
@@ -580,19 +608,28 @@ static void some_levels(uint16_t *levels, size_t count)
     }
 }
 
-/* A content that is mostly good, and its name. */
-static void some_content(ref_trial *t, uint8_t *name, size_t counts[2])
+/* A version that is neither 1 nor 2. */
+static uint32_t some_version(void)
 {
-    t->n = some_degree(2, 6);
-    do {
-        t->f = some_code(t->n);
-        t->g = some_code(t->n);
-    } while (t->n >= 2 && t->n <= 6 && draw(8) && ref_coprime(t->n, t->f, t->g) == 8);
-    for (int list = 0; list < 2; list++) {
+    static const uint32_t versions[8] = { 0, 3, 4, 255, 257, 258, UINT32_C(1) << 31, UINT32_MAX };
+    return versions[draw(8)];
+}
+
+/* A content that is mostly good, and its name. At version 1 the third code is anything and the third list of any length. */
+static void some_content(ref_trial *t, uint8_t *name, size_t counts[3])
+{
+    t->version = draw(32) ? 1 + draw(2) : some_version();
+    t->n = some_degree(t->version == 2 && draw(16) ? 3 : 2, 6);
+    some_codes(t->n, t->codes, ref_settings(t->version));
+    for (int list = 0; list < 3; list++) {
         counts[list] = t->n > 6 ? draw(65) : (size_t)1 << t->n;
         if (draw(32) == 0)
             counts[list] = draw(65);
         some_levels(t->levels[list], counts[list]);
+    }
+    if (t->version == 1 && draw(4)) {
+        t->codes[2] = draw(2) ? t->codes[draw(2)] : (uint32_t)draw64();
+        counts[2] = draw(2) ? draw(65) : draw(2) ? 0 : draw(2000);
     }
     t->size = draw(32) ? draw(41) : 41 + draw(3);
     for (size_t i = 0; i < t->size; i++)
@@ -601,26 +638,41 @@ static void some_content(ref_trial *t, uint8_t *name, size_t counts[2])
         name[draw(44)] = (uint8_t)draw(256);
 }
 
-static void try_write(void)
+/* Writes a content, whatever it is, into so many bytes more or less than it needs; gives what the call answers. A list of more than 64
+ * levels is lent with any, and one of none is now and then no list at all. */
+static uint32_t write_lent(const ref_trial *t, const uint8_t *name, const size_t counts[3], int more)
 {
-    ref_trial t;
-    uint8_t name[64] = { 0 }, encoded[1024];
-    size_t counts[2];
-    some_content(&t, name, counts);
-    size_t size = ref_encode(&t, name, counts, encoded), room = draw(8) ? size + draw(3) : size - 1 - draw(4);
-    uint32_t want = ref_content(&t, name, counts);
-    want = want ? want : room < size ? 4 : 0;
-    const uint16_t *powers = (const uint16_t *)lend_copy(0, t.levels[0], 2 * counts[0]);
-    const uint16_t *forces = (const uint16_t *)lend_copy(1, t.levels[1], 2 * counts[1]);
-    const uint8_t *lent_name = (const uint8_t *)lend_copy(2, name, t.size);
-    uint8_t *out = (uint8_t *)lend(3, room);
-    uint32_t got = dw_write(t.n, t.f, t.g, powers, counts[0], forces, counts[1], lent_name, t.size, out, room, lend_size(4));
+    static uint8_t encoded[1024];
+    const uint16_t *lists[3];
+    uint32_t want = ref_content(t, name, counts);
+    size_t size = want ? 64 : ref_encode(t, name, counts, encoded), room = more < 0 ? size - (size_t)-more : size + (size_t)more;
+    want = want ? want : more < 0 ? 4 : 0;
+    for (int list = 0; list < 3; list++) {
+        size_t bytes = 2 * counts[list];
+        lists[list] = (const uint16_t *)(counts[list] > 64 ? lend(list, bytes) : lend_copy(list, t->levels[list], bytes));
+        lists[list] = counts[list] == 0 && draw(2) ? NULL : lists[list];
+    }
+    const uint8_t *lent_name = (const uint8_t *)lend_copy(3, name, t->size);
+    uint8_t *out = (uint8_t *)lend(4, room);
+    uint32_t got = dw_write(t->version, t->n, t->codes[0], t->codes[1], t->codes[2], lists[0], counts[0], lists[1], counts[1], lists[2],
+                            counts[2], lent_name, t->size, out, room, lend_size(5));
     count(got, want, "dw_write");
     came_back(0, NULL, 0, "dw_write: powers");
     came_back(1, NULL, 0, "dw_write: forces");
-    came_back(2, NULL, 0, "dw_write: name");
-    came_back(3, encoded, want ? 0 : size, "dw_write: file");
-    came_size(4, want, size, "dw_write: length");
+    came_back(2, NULL, 0, "dw_write: times");
+    came_back(3, NULL, 0, "dw_write: name");
+    came_back(4, encoded, want ? 0 : size, "dw_write: file");
+    came_size(5, want, size, "dw_write: length");
+    return want;
+}
+
+static void try_write(void)
+{
+    ref_trial t;
+    uint8_t name[64] = { 0 };
+    size_t counts[3];
+    some_content(&t, name, counts);
+    write_lent(&t, name, counts, draw(8) ? (int)draw(3) : -1 - (int)draw(4));
 }
 
 /* A file that is often damaged at one place. */
@@ -630,10 +682,11 @@ static size_t some_file(uint8_t *file)
                                        { 0x80, 0x80, 0x80, 0x80, 0x80, 1 }, { 0x80, 0x80, 4 }, { 0xff, 0xff, 3 } };
     ref_trial t;
     uint8_t name[64] = { 0 };
-    size_t counts[2];
+    size_t counts[3];
     some_content(&t, name, counts);
+    counts[2] = counts[2] > 64 ? 64 : counts[2];
     size_t size = ref_encode(&t, name, counts, file);
-    uint32_t kind = draw(8), at = draw((uint32_t)size), head = draw(4);
+    uint32_t kind = draw(8), at = draw((uint32_t)size), head = draw(5);
     if (kind == 0)
         return at;
     if (kind == 1)
@@ -645,25 +698,43 @@ static size_t some_file(uint8_t *file)
     return size;
 }
 
+/* Reads a file, whatever it is, into lists of so many numbers; gives what the call answers. Version 1 leaves the third list and h. */
+static uint32_t read_lent(const uint8_t *bytes, size_t size, const size_t rooms[3])
+{
+    ref_trial t;
+    memset(&t, 0, sizeof t);
+    uint32_t want = rooms[0] < 64 || rooms[1] < 64 || rooms[2] < 64 ? 4 : ref_read(bytes, size, &t);
+    size_t levels = want ? 0 : (size_t)2 << t.n;
+    const uint8_t *file = (const uint8_t *)lend_copy(3, bytes, size);
+    uint16_t *powers = (uint16_t *)lend(0, 2 * rooms[0]), *forces = (uint16_t *)lend(1, 2 * rooms[1]);
+    uint16_t *times = (uint16_t *)lend(2, 2 * rooms[2]);
+    uint32_t *n = lend_u32(4), *f = lend_u32(5), *g = lend_u32(6), *version = lend_u32(9), *h = lend_u32(10);
+    size_t *name = lend_size(7), *name_size = lend_size(8);
+    uint32_t got = dw_read(file, size, powers, rooms[0], forces, rooms[1], times, rooms[2], n, f, g, name, name_size, version, h);
+    count(got, want, "dw_read");
+    came_back(0, t.levels[0], levels, "dw_read: powers");
+    came_back(1, t.levels[1], levels, "dw_read: forces");
+    came_back(2, t.levels[2], t.version == 2 ? levels : 0, "dw_read: times");
+    came_back(3, NULL, 0, "dw_read: file");
+    came_u32(4, want, t.n, "dw_read: degree");
+    came_u32(5, want, t.codes[0], "dw_read: f");
+    came_u32(6, want, t.codes[1], "dw_read: g");
+    came_size(7, want, t.name, "dw_read: name's offset");
+    came_size(8, want, t.size, "dw_read: name's length");
+    came_u32(9, want, t.version, "dw_read: version");
+    came_u32(10, want || t.version != 2, t.codes[2], "dw_read: h");
+    return want;
+}
+
+static const size_t enough[3] = { 64, 64, 64 };
+
 static void try_read(void)
 {
     uint8_t bytes[1024];
-    ref_trial t = { 0, 0, 0, { { 0 }, { 0 } }, 0, 0 };
-    size_t size = some_file(bytes), rooms[2] = { draw(32) ? 64 + draw(2) : draw(65), draw(32) ? 64 + draw(2) : draw(65) };
-    uint32_t want = rooms[0] < 64 || rooms[1] < 64 ? 4 : ref_read(bytes, size, &t);
-    const uint8_t *file = (const uint8_t *)lend_copy(2, bytes, size);
-    uint16_t *powers = (uint16_t *)lend(0, 2 * rooms[0]), *forces = (uint16_t *)lend(1, 2 * rooms[1]);
-    uint32_t *n = lend_u32(3), *f = lend_u32(4), *g = lend_u32(5);
-    size_t *name = lend_size(6), *name_size = lend_size(7), levels = want ? 0 : (size_t)2 << t.n;
-    count(dw_read(file, size, powers, rooms[0], forces, rooms[1], n, f, g, name, name_size), want, "dw_read");
-    came_back(0, t.levels[0], levels, "dw_read: powers");
-    came_back(1, t.levels[1], levels, "dw_read: forces");
-    came_back(2, NULL, 0, "dw_read: file");
-    came_u32(3, want, t.n, "dw_read: degree");
-    came_u32(4, want, t.f, "dw_read: f");
-    came_u32(5, want, t.g, "dw_read: g");
-    came_size(6, want, t.name, "dw_read: name's offset");
-    came_size(7, want, t.size, "dw_read: name's length");
+    size_t size = some_file(bytes), rooms[3];
+    for (int i = 0; i < 3; i++)
+        rooms[i] = draw(48) ? 64 + draw(2) : draw(65);
+    read_lent(bytes, size, rooms);
 }
 
 /* The list in the paper's own order: compositions, then intermediate bits, then words. */
@@ -796,24 +867,56 @@ static void whole_chains(void)
     }
 }
 
-/* The longest file there is, which is as long as the header says; a name of 41 bytes is refused. */
+/* A good content without a name: the first pair or triple of its degree, and levels of one to three bytes in no order. */
+static ref_trial plain_content(uint32_t version, uint32_t n)
+{
+    ref_trial t;
+    memset(&t, 0, sizeof t);
+    t.version = version;
+    t.n = n;
+    if (version == 2)
+        expect(ref_triple(n, 0, t.codes) == 0, "content: triple");
+    else
+        ref_pair(n, 0, &t.codes[0], &t.codes[1]);
+    for (uint32_t i = 0; i < 64; i++)
+        for (uint32_t list = 0; list < 3; list++)
+            t.levels[list][i] = (uint16_t)(i * 40503 + 7 + list);
+    return t;
+}
+
+/* The writer by a content alone, each list of its right length, into DW_FILE_ROOM bytes. */
+static uint32_t write_content(const ref_trial *t, const uint8_t *name, uint8_t *file, size_t *length)
+{
+    size_t order = (size_t)1 << t->n, third = t->version == 1 ? 0 : order;
+    return dw_write(t->version, t->n, t->codes[0], t->codes[1], t->codes[2], t->levels[0], order, t->levels[1], order,
+                    third ? t->levels[2] : NULL, third, name, t->size, file, DW_FILE_ROOM, length);
+}
+
+/* The longest files there are, of each version; the longer is as long as the header says. A name of 41 bytes is refused. */
 static void longest_file(void)
 {
-    uint16_t levels[64];
     uint8_t name[41], file[DW_FILE_ROOM];
     size_t length = 0;
-    for (uint32_t i = 0; i < 64; i++)
-        levels[i] = (uint16_t)(65472 + i);
     memset(name, 'A', sizeof name);
-    count(dw_write(6, 67, 91, levels, 64, levels, 64, name, 40, file, sizeof file, &length), 0, "longest file");
-    expect(length == sizeof file, "longest file: length");
-    count(dw_write(6, 67, 91, levels, 64, levels, 64, name, 41, file, sizeof file, &length), 15, "name of 41 bytes");
+    for (uint32_t version = 1; version <= 2; version++) {
+        ref_trial t = plain_content(version, 6);
+        for (uint32_t i = 0; i < 64; i++)
+            t.levels[0][i] = t.levels[1][i] = t.levels[2][i] = (uint16_t)(65472 + i);
+        t.size = 40;
+        count(write_content(&t, name, file, &length), 0, "longest file");
+        expect(length == (version == 1 ? 429 : 622) && length <= sizeof file, "longest file: length");
+        expect(read_lent(file, length, enough) == 0, "longest file: read");
+        t.size = 41;
+        count(write_content(&t, name, file, &length), 15, "name of 41 bytes");
+    }
 }
 
 /* The file of a content up to and with a level of one of its lists. */
 static size_t front_of(const ref_trial *t, int list, size_t place, uint8_t *file)
 {
-    size_t at = ref_put(file, ref_put(file, ref_put(file, ref_put(file, 0, 1), t->n), t->f), t->g);
+    size_t at = ref_put(file, ref_put(file, 0, t->version), t->n);
+    for (int i = 0; i < ref_settings(t->version); i++)
+        at = ref_put(file, at, t->codes[i]);
     for (int l = 0; l <= list; l++)
         for (size_t i = 0; l < list ? i < (size_t)1 << t->n : i <= place; i++)
             at = ref_put(file, at, t->levels[l][i]);
@@ -823,12 +926,14 @@ static size_t front_of(const ref_trial *t, int list, size_t place, uint8_t *file
 /* A file is refused with the number, and levels that are lent keep what they are. */
 static void refused_file(const uint8_t *file, size_t length, uint32_t number, const char *what)
 {
-    uint16_t lent[2][DW_LEVELS_ROOM], kept[2][DW_LEVELS_ROOM];
-    uint32_t n, f, g;
+    uint16_t lent[3][DW_LEVELS_ROOM], kept[3][DW_LEVELS_ROOM];
+    uint32_t n, f, g, h, version;
     size_t at, size;
     memset(lent, 165, sizeof lent);
     memset(kept, 165, sizeof kept);
-    count(dw_read(file, length, lent[0], DW_LEVELS_ROOM, lent[1], DW_LEVELS_ROOM, &n, &f, &g, &at, &size), number, what);
+    uint32_t got = dw_read(file, length, lent[0], DW_LEVELS_ROOM, lent[1], DW_LEVELS_ROOM, lent[2], DW_LEVELS_ROOM, &n, &f, &g, &at, &size,
+                           &version, &h);
+    count(got, number, what);
     expect(memcmp(lent, kept, sizeof lent) == 0, what);
 }
 
@@ -837,10 +942,9 @@ static void refused_file(const uint8_t *file, size_t length, uint32_t number, co
 static void repeated_level(ref_trial *t, int list, size_t place)
 {
     static const uint8_t behind[3][3] = { { 0x80, 0x80, 4 }, { 0x82, 0, 0 }, { 0xff, 0xff, 0xff } };
-    uint8_t file[1024];
-    size_t order = (size_t)1 << t->n, end = front_of(t, list, place, file), length;
-    uint32_t wrote = dw_write(t->n, t->f, t->g, t->levels[0], order, t->levels[1], order, NULL, 0, file + 512, 512, &length);
-    count(wrote, 14, "repeated level: written");
+    uint8_t file[1024], out[DW_FILE_ROOM];
+    size_t end = front_of(t, list, place, file), length;
+    count(write_content(t, NULL, out, &length), 14, "repeated level: written");
     refused_file(file, end, 14, "repeated level: end of the file");
     refused_file(file, end - 1, 9, "repeated level: not whole");
     for (int i = 0; i < 3; i++) {
@@ -854,62 +958,421 @@ static void repeated_level(ref_trial *t, int list, size_t place)
 /* Levels that differ, in no order, are written and read back. */
 static void shuffled_levels(const ref_trial *t)
 {
-    uint16_t lent[2][DW_LEVELS_ROOM];
+    uint16_t lent[3][DW_LEVELS_ROOM];
     uint8_t file[DW_FILE_ROOM];
-    size_t order = (size_t)1 << t->n, length = 0, at, size;
-    uint32_t n, f, g;
-    uint32_t wrote = dw_write(t->n, t->f, t->g, t->levels[0], order, t->levels[1], order, NULL, 0, file, sizeof file, &length);
-    count(wrote, 0, "shuffled: written");
-    count(dw_read(file, length, lent[0], DW_LEVELS_ROOM, lent[1], DW_LEVELS_ROOM, &n, &f, &g, &at, &size), 0, "shuffled: read");
-    expect(n == t->n && f == t->f && g == t->g, "shuffled: head");
-    for (int list = 0; list < 2; list++)
-        expect(memcmp(lent[list], t->levels[list], 2 * order) == 0, "shuffled: levels");
+    size_t length = 0, at, size;
+    uint32_t n, version, codes[3] = { 0, 0, 0 };
+    memset(lent, 165, sizeof lent);
+    count(write_content(t, NULL, file, &length), 0, "shuffled: written");
+    uint32_t got = dw_read(file, length, lent[0], DW_LEVELS_ROOM, lent[1], DW_LEVELS_ROOM, lent[2], DW_LEVELS_ROOM, &n, &codes[0],
+                           &codes[1], &at, &size, &version, &codes[2]);
+    count(got, 0, "shuffled: read");
+    expect(version == t->version && n == t->n && memcmp(codes, t->codes, sizeof codes) == 0, "shuffled: head");
+    for (int list = 0; list < ref_settings(version); list++)
+        expect(memcmp(lent[list], t->levels[list], (size_t)2 << n) == 0, "shuffled: levels");
+    expect(version == 2 || lent[2][0] == 165 * 257, "shuffled: no times");
 }
 
-/* Every two places of a list, in both lists, with 0, 65535 or another level at both; and lists with that level at one place alone. */
+/* Every two places of a list, in each list, with 0, 65535 or another level at both; and lists with that level at one place alone. */
 static void repeated_levels(void)
 {
-    ref_trial t = { 0, 0, 0, { { 0 }, { 0 } }, 0, 0 };
-    for (t.n = 2; t.n <= 6; t.n++)
-        for (uint32_t pair = 0, order = 1u << t.n; pair < 2 * order * order; pair++) {
-            uint32_t list = pair % 2, place = pair / 2 % order, earlier = pair / 2 / order;
-            for (uint32_t i = 0; i < 64; i++)
-                t.levels[0][i] = t.levels[1][i] = (uint16_t)(i * 40503 + 7);
-            count(dw_pair_at(t.n, 0, &t.f, &t.g), 0, "repeated level: pair");
-            if (pair % 3)
-                t.levels[list][earlier] = pair % 3 == 1 ? 0 : 65535;
-            if (earlier < place) {
-                t.levels[list][place] = t.levels[list][earlier];
-                repeated_level(&t, (int)list, place);
-            } else
-                shuffled_levels(&t);
+    for (uint32_t version = 1; version <= 2; version++)
+        for (uint32_t n = version + 1; n <= 6; n++)
+            for (uint32_t pair = 0, order = 1u << n, lists = version + 1; pair < lists * order * order; pair++) {
+                uint32_t list = pair % lists, place = pair / lists % order, earlier = pair / lists / order, kind = (place + earlier) % 3;
+                ref_trial t = plain_content(version, n);
+                if (kind)
+                    t.levels[list][earlier] = kind == 1 ? 0 : 65535;
+                if (earlier < place) {
+                    t.levels[list][place] = t.levels[list][earlier];
+                    repeated_level(&t, (int)list, place);
+                } else
+                    shuffled_levels(&t);
+            }
+}
+
+/* Three codes of which each two are coprime: the sheet and the file are made. */
+static void served_codes(uint32_t n, const uint32_t codes[3])
+{
+    static uint8_t sheet[DW_SHEET3_ROOM], file[DW_FILE_ROOM];
+    size_t length;
+    ref_trial t = plain_content(2, n);
+    memcpy(t.codes, codes, sizeof t.codes);
+    count(dw_sheet3(n, codes[0], codes[1], codes[2], sheet, sizeof sheet), 0, "three codes: sheet served");
+    count(write_content(&t, NULL, file, &length), 0, "three codes: file served");
+}
+
+/* Three codes: every three numbers at degrees 2 to 4, good and bad, and every three odd codes of degrees 5 and 6. The sheet and the writer
+ * refuse the codes before the room and the lists that they lack, and the reader before what is missing behind them; each tells the others'
+ * number. At version 1 the third one is not looked at. */
+static void every_three_codes(void)
+{
+    for (uint32_t n = 2; n <= 6; n++) {
+        uint32_t low = n < 5 ? 0 : (1u << n) + 1, step = n < 5 ? 1 : 2, end = (2u << n) + (n < 5 ? 2 : 0), codes[3];
+        for (codes[0] = low; codes[0] < end; codes[0] += step)
+            for (codes[1] = low; codes[1] < end; codes[1] += step)
+                for (codes[2] = low; codes[2] < end; codes[2] += step) {
+                    uint32_t three = ref_pairwise(n, codes, 3), two = ref_pairwise(n, codes, 2), f = codes[0], g = codes[1], h = codes[2];
+                    uint8_t file[16];
+                    size_t at = ref_put(file, ref_put(file, ref_put(file, ref_put(file, ref_put(file, 0, 2), n), f), g), h), length;
+                    count(dw_sheet3(n, f, g, h, NULL, 0), three ? three : 4, "three codes: sheet");
+                    uint32_t wrote = dw_write(2, n, f, g, h, NULL, 0, NULL, 0, NULL, 0, NULL, 0, NULL, 0, &length);
+                    count(wrote, three ? three : 4, "three codes: file");
+                    wrote = dw_write(1, n, f, g, h, NULL, 0, NULL, 0, NULL, 0, NULL, 0, NULL, 0, &length);
+                    count(wrote, two ? two : 4, "three codes: file of version 1");
+                    refused_file(file, at, three ? three : 9, "three codes: read");
+                    if (three == 0)
+                        served_codes(n, codes);
+                }
+    }
+}
+
+/* Whether two squares of a sheet of three cross: each pair of symbols is at one site. */
+static int crossed(const uint8_t *sheet, uint32_t n, int one, int other)
+{
+    static uint8_t met[4096];
+    uint32_t sites = 1u << 2 * n, many = 0;
+    memset(met, 0, sizeof met);
+    for (uint32_t site = 0; site < sites; site++) {
+        uint32_t a = sheet[3 * site + (uint32_t)one], b = sheet[3 * site + (uint32_t)other];
+        if (a >> n != 0 || b >> n != 0)
+            return 0;
+        many += !met[a << n | b];
+        met[a << n | b] = 1;
+    }
+    return many == sites;
+}
+
+/* The trial of three codes: its sheet, whose bytes are the site call's symbols, and of which each two squares cross; and its file, which is
+ * read back. */
+static void whole_trial(uint32_t n, const uint32_t codes[3])
+{
+    static const int two[3][2] = { { 0, 1 }, { 0, 2 }, { 1, 2 } };
+    const uint8_t *sheet = memory[0].bytes + GUARD;
+    uint8_t file[DW_FILE_ROOM] = { 0 };
+    size_t room = (size_t)3 << 2 * n, order = (size_t)1 << n, length;
+    const size_t counts[3] = { order, order, order };
+    expect(lay(n, codes, 3, room - 1) == 4, "three squares: no room");
+    expect(lay(n, codes, 3, room) == 0, "three squares: served");
+    for (int i = 0; i < 3; i++) {
+        int a = two[i][0], b = two[i][1];
+        expect(crossed(sheet, n, a, b), "three squares: each two cross");
+        for (uint32_t site = 0; site < 1u << 2 * n; site++) {
+            uint32_t first, second;
+            count(dw_site(n, codes[a], codes[b], site >> n, site % (1u << n), &first, &second), 0, "three squares: site");
+            expect(first == sheet[3 * site + (uint32_t)a] && second == sheet[3 * site + (uint32_t)b], "three squares: symbols");
+        }
+    }
+    ref_trial t = plain_content(2, n);
+    memcpy(t.codes, codes, sizeof t.codes);
+    expect(write_lent(&t, file, counts, 0) == 0, "three squares: written");
+    count(write_content(&t, NULL, file, &length), 0, "three squares: file");
+    expect(read_lent(file, length, enough) == 0, "three squares: read");
+}
+
+/* All triples of degrees 3 and 4, and some of 5 and 6. */
+static void three_squares(void)
+{
+    uint32_t codes[3] = { 0 };
+    for (uint32_t n = 3; n <= 6; n++)
+        for (uint64_t i = 0; i < (n < 5 ? triples[n] : 30); i++) {
+            expect(triple_at(n, n < 5 ? i : draw64() % triples[n], codes) == 0, "three squares: triple");
+            whole_trial(n, codes);
         }
 }
 
-/* A pointer whose length is 0 may be null, in every call that takes one; a name of length 0 is served. */
+/* What can be wrong with a content, in the order in which the writer refuses it; a sheet of three has the causes of codes and room. */
+enum { VERSION, DEGREE, DEGREE_F, EVEN_F, DEGREE_G, EVEN_G, DEGREE_H, EVEN_H, SHARED_FG, SHARED_FH, SHARED_GH, MANY_POWERS, MANY_FORCES,
+       MANY_TIMES, EQUAL_POWERS, EQUAL_FORCES, EQUAL_TIMES, LONG_NAME, NAME_BYTE, ROOM, CAUSES };
+static const uint32_t number_of[CAUSES] = { 11, 12, 6, 7, 6, 7, 6, 7, 8, 8, 8, 4, 4, 4, 14, 14, 14, 15, 16, 4 };
+
+/* Whether a cause is of the third code or list, which version 1 does not have. */
+static int of_third(int cause)
+{
+    return cause == DEGREE_H || cause == EVEN_H || cause == SHARED_FH || cause == SHARED_GH || cause == MANY_TIMES || cause == EQUAL_TIMES;
+}
+
+/* The first of the causes that a version has, as its number; 0 if there is none. */
+static uint32_t first_of(uint64_t wrong, uint32_t version)
+{
+    for (int cause = 0; cause < CAUSES; cause++)
+        if (wrong & bit((uint32_t)cause) && !(version == 1 && of_third(cause)))
+            return number_of[cause];
+    return 0;
+}
+
+static void spoil_codes(uint64_t wrong, uint32_t n, uint32_t codes[3])
+{
+    if (wrong & bit(SHARED_FG))
+        codes[1] = codes[0];
+    if (wrong & (bit(SHARED_FH) | bit(SHARED_GH)))
+        codes[2] = codes[wrong & bit(SHARED_FH) ? 0 : 1];
+    for (uint32_t i = 0; i < 3; i++) {
+        codes[i] ^= wrong & bit(DEGREE_F + 2 * i) ? 3u << n : 0;
+        codes[i] &= wrong & bit(EVEN_F + 2 * i) ? ~1u : ~0u;
+    }
+}
+
+static void write_spoilt(uint64_t wrong, uint32_t version, uint32_t n)
+{
+    ref_trial t = plain_content(version, n);
+    uint8_t name[41];
+    size_t counts[3];
+    if (version == 1)
+        expect(ref_triple(n, 0, t.codes) == 0, "causes: triple");
+    t.size = wrong & bit(LONG_NAME) ? 41 : 3;
+    memset(name, 'A', sizeof name);
+    name[1] = wrong & bit(NAME_BYTE) ? 31 : 32;
+    spoil_codes(wrong, n, t.codes);
+    for (uint32_t list = 0; list < 3; list++) {
+        counts[list] = (size_t)(1u << n) - (wrong & bit(MANY_POWERS + list) ? 1 : 0);
+        if (wrong & bit(EQUAL_POWERS + list))
+            t.levels[list][counts[list] - 1] = t.levels[list][0];
+    }
+    t.version = wrong & bit(VERSION) ? some_version() : version;
+    t.n = wrong & bit(DEGREE) ? 7 : n;
+    expect(write_lent(&t, name, counts, wrong & bit(ROOM) ? -1 : 0) == first_of(wrong, version), "causes: written");
+}
+
+/* Contents with every one, every two and every three causes, of both versions, and sheets with those that are theirs. */
+static void several_causes(void)
+{
+    uint32_t codes[3] = { 0 };
+    for (uint32_t a = 0; a < CAUSES; a++)
+        for (uint32_t b = a; b < CAUSES; b++)
+            for (uint32_t c = b; c < CAUSES; c++)
+                for (uint32_t n = 3; n <= 4; n++) {
+                    uint64_t wrong = bit(a) | bit(b) | bit(c), sheets = wrong & ~bit(VERSION) & (bit(MANY_POWERS) - 1);
+                    for (uint32_t version = 1; version <= 2; version++)
+                        write_spoilt(wrong, version, n);
+                    sheets |= wrong & bit(ROOM);
+                    expect(ref_triple(n, 1, codes) == 0, "causes: triple");
+                    spoil_codes(wrong, n, codes);
+                    uint32_t got = lay(wrong & bit(DEGREE) ? 7 : n, codes, 3, ((size_t)3 << 2 * n) - (wrong & bit(ROOM) ? 1 : 0));
+                    expect(got == first_of(sheets, 2), "causes: sheet");
+                }
+}
+
+/* A file of numbers, a name, and bytes behind it. A number may have a needless last byte; the file may end before one, or inside it. */
+typedef struct raw_file {
+    uint32_t numbers[2 + 3 + 3 * 64 + 1];
+    uint8_t needless[2 + 3 + 3 * 64 + 1], name[3];
+    size_t count, ends, size, behind;
+    int inside;
+} raw_file;
+
+static size_t put_raw(const raw_file *raw, uint8_t *file)
+{
+    size_t at = 0;
+    for (size_t i = 0; i < raw->count; i++) {
+        if (i == raw->ends && raw->inside)
+            file[at++] = 0x80;
+        if (i == raw->ends)
+            return at;
+        at = ref_put(file, at, raw->numbers[i]);
+        if (raw->needless[i]) {
+            file[at - 1] |= 0x80;
+            file[at++] = 0;
+        }
+    }
+    memcpy(file + at, raw->name, raw->size);
+    memset(file + at + raw->size, 'A', raw->behind);
+    return at + raw->size + raw->behind;
+}
+
+static raw_file raw_of(const ref_trial *t)
+{
+    raw_file raw;
+    memset(&raw, 0, sizeof raw);
+    raw.numbers[raw.count++] = t->version;
+    raw.numbers[raw.count++] = t->n;
+    for (int i = 0; i < ref_settings(t->version); i++)
+        raw.numbers[raw.count++] = t->codes[i];
+    for (int list = 0; list < ref_settings(t->version); list++)
+        for (uint32_t i = 0; i < 1u << t->n; i++)
+            raw.numbers[raw.count++] = t->levels[list][i];
+    raw.numbers[raw.count++] = sizeof raw.name;
+    raw.size = sizeof raw.name;
+    raw.ends = raw.count;
+    memset(raw.name, 'A', sizeof raw.name);
+    return raw;
+}
+
+/* One thing wrong with a file: at which of its numbers, or behind them; what it is refused by; and when that is looked for. */
+enum { NEEDLESS, VALUE, SHARED, ENDS_BEFORE, ENDS_INSIDE, NAME_LACKS, NAME_ODD, BEHIND };
+typedef struct damage {
+    int kind;
+    uint32_t at, value, answer, when;
+} damage;
+
+static damage damages[256];
+static uint32_t damaged;
+
+static void add_damage(int kind, uint32_t at, uint32_t value, uint32_t answer, uint32_t when)
+{
+    damage one = { kind, at, value, answer, when };
+    damages[damaged++] = one;
+}
+
+/* What is tried on one number: values that its field refuses, a needless byte, and the file's end before it and inside it. */
+static void add_number(uint32_t at, const uint32_t (*values)[2], int many)
+{
+    for (int i = 0; i < many; i++)
+        add_damage(VALUE, at, values[i][0], values[i][1], 8 * at + 1);
+    add_damage(NEEDLESS, at, 0, 10, 8 * at);
+    add_damage(ENDS_BEFORE, at, 0, 9, 8 * at);
+    add_damage(ENDS_INSIDE, at, 0, 9, 8 * at);
+}
+
+/* Everything that is tried on the file of a content. Number 8 is looked for behind the last of its codes. */
+static void add_damages(const ref_trial *t)
+{
+    uint32_t n = t->n, order = 1u << n, codes = (uint32_t)ref_settings(t->version), size = 2 + codes + codes * order;
+    const uint32_t versions[][2] = { { 0, 11 }, { 3, 11 }, { 257, 11 }, { 258, 11 }, { UINT32_MAX, 11 } };
+    const uint32_t degrees[][2] = { { 0, 12 }, { 1, 12 }, { 7, 12 }, { 256 + n, 12 } }, sizes[][2] = { { 41, 15 }, { UINT32_MAX, 15 } };
+    damaged = 0;
+    add_number(0, versions, 5);
+    add_number(1, degrees, 4);
+    for (uint32_t i = 0; i < codes; i++) {
+        const uint32_t wrong[][2] = { { t->codes[i] ^ 3u << n, 6 }, { 1, 6 }, { 0, 6 }, { t->codes[i] & ~1u, 7 } };
+        add_number(2 + i, wrong, 4);
+        for (uint32_t k = 0; k < i; k++)
+            add_damage(SHARED, 2 + i, 2 + k, 8, 8 * (1 + codes) + 2);
+    }
+    for (uint32_t list = 0; list < codes; list++)
+        for (uint32_t place = 1; place < order; place += order - 2) {
+            uint32_t first = t->levels[list][0];
+            const uint32_t wrong[][2] = { { 65536, 13 }, { 65536 + first, 13 }, { UINT32_MAX, 13 }, { first, 14 } };
+            add_number(2 + codes + list * order + place, wrong, 4);
+        }
+    add_number(size, sizes, 2);
+    add_damage(NAME_LACKS, size + 1, 0, 9, 8 * size + 2);
+    add_damage(NAME_ODD, size + 2, 0, 16, 8 * size + 3);
+    add_damage(BEHIND, size + 3, 0, 17, 8 * size + 4);
+}
+
+/* Equal codes come first, so that another damage of one of the codes is not undone. */
+static void spoil(raw_file *raw, const damage *d, int shared)
+{
+    if ((d->kind == SHARED) != shared)
+        return;
+    if (d->kind == NEEDLESS)
+        raw->needless[d->at] = 1;
+    if (d->kind == VALUE)
+        raw->numbers[d->at] = d->value;
+    if (d->kind == SHARED)
+        raw->numbers[d->at] = raw->numbers[d->value];
+    if (d->kind == ENDS_BEFORE || d->kind == ENDS_INSIDE) {
+        raw->inside = d->at < raw->ends ? d->kind == ENDS_INSIDE : raw->inside;
+        raw->ends = d->at < raw->ends ? d->at : raw->ends;
+    }
+    raw->size -= d->kind == NAME_LACKS;
+    raw->name[0] = d->kind == NAME_ODD ? 127 : raw->name[0];
+    raw->behind += d->kind == BEHIND;
+}
+
+/* Files with every two damages at different places, and with each alone: the one that is looked for first refuses. */
+static void damages_of(uint32_t version, uint32_t n)
+{
+    static const size_t short_rooms[3][3] = { { 63, 64, 64 }, { 64, 63, 64 }, { 64, 64, 63 } };
+    ref_trial t = plain_content(version, n);
+    uint8_t file[1024];
+    add_damages(&t);
+    for (uint32_t i = 0; i < damaged; i++)
+        for (uint32_t k = i; k < damaged; k++) {
+            const damage *a = &damages[i], *b = &damages[k];
+            raw_file raw = raw_of(&t);
+            if (k > i && (a->at == b->at || (a->kind == NAME_LACKS && b->kind == BEHIND)))
+                continue;
+            for (int shared = 1; shared >= 0; shared--) {
+                spoil(&raw, a, shared);
+                if (k > i)
+                    spoil(&raw, b, shared);
+            }
+            size_t size = put_raw(&raw, file);
+            expect(read_lent(file, size, enough) == (a->when <= b->when ? a : b)->answer, "damages: the first refuses");
+            if (k == i)
+                for (int room = 0; room < 3; room++)
+                    expect(read_lent(file, size, short_rooms[room]) == 4, "damages: room before all");
+        }
+    raw_file whole = raw_of(&t);
+    size_t size = put_raw(&whole, file);
+    expect(read_lent(file, size, enough) == 0, "damages: the whole file");
+    for (int room = 0; room < 3; room++)
+        expect(read_lent(file, size, short_rooms[room]) == 4, "damages: room of 63");
+}
+
+static void two_damages(void)
+{
+    for (uint32_t n = 2; n <= 4; n++)
+        damages_of(1, n);
+    for (uint32_t n = 3; n <= 4; n++)
+        damages_of(2, n);
+}
+
+/* A file with every value at every byte, with every part of it from the front, and with a byte more. */
+static void damaged_everywhere(uint32_t version, uint32_t n)
+{
+    ref_trial t = plain_content(version, n);
+    uint8_t file[1024];
+    raw_file raw = raw_of(&t);
+    size_t size = put_raw(&raw, file);
+    for (size_t at = 0; at < size; at++) {
+        uint8_t kept = file[at];
+        read_lent(file, at, enough);
+        for (uint32_t value = 0; value < 256; value++) {
+            file[at] = (uint8_t)value;
+            read_lent(file, size, enough);
+        }
+        file[at] = kept;
+    }
+    expect(read_lent(file, size, enough) == 0, "damaged files: whole");
+    file[size] = 'A';
+    expect(read_lent(file, size + 1, enough) == 17, "damaged files: a byte more");
+}
+
+static void damaged_files(void)
+{
+    for (uint32_t n = 2; n <= 3; n++)
+        damaged_everywhere(1, n);
+    for (uint32_t n = 3; n <= 4; n++)
+        damaged_everywhere(2, n);
+}
+
+/* A pointer whose length is 0 may be null, in every call that takes one; a name of length 0 is served, and at version 1 no times. */
 static void null_pointers(void)
 {
-    static const uint16_t levels[4] = { 1, 2, 3, 4 };
+    static const uint16_t levels[8] = { 1, 2, 3, 4, 5, 6, 7, 8 };
     uint8_t file[DW_FILE_ROOM] = { 0 };
-    uint16_t powers[DW_LEVELS_ROOM] = { 0 }, forces[DW_LEVELS_ROOM] = { 0 };
-    uint32_t n = 9, f = 9, g = 9;
-    size_t length = 9, at = 9, size = 9;
+    uint16_t powers[DW_LEVELS_ROOM] = { 0 }, forces[DW_LEVELS_ROOM] = { 0 }, times[DW_LEVELS_ROOM] = { 0 };
+    uint32_t n = 9, f = 9, g = 9, v = 9, h = 9;
+    size_t length = 9, at = 9, size = 9, room = sizeof file;
     count(dw_pairs_from(2, 0, NULL, 0, &size), 4, "null: pairs");
     count(dw_pairs_from(2, 2, NULL, 0, &size), 2, "null: pairs at the end");
     count(dw_chain(2, 7, 5, NULL, 0, &size, &n), 4, "null: quotients");
     count(dw_sheet(2, 7, 5, NULL, 0), 4, "null: sheet");
-    count(dw_read(NULL, 0, powers, 64, forces, 64, &n, &f, &g, &at, &size), 9, "null: file to read");
-    count(dw_read(file, sizeof file, NULL, 0, forces, 64, &n, &f, &g, &at, &size), 4, "null: powers to read");
-    count(dw_read(file, sizeof file, powers, 64, NULL, 0, &n, &f, &g, &at, &size), 4, "null: forces to read");
-    count(dw_read(NULL, 0, NULL, 0, NULL, 0, &n, &f, &g, &at, &size), 4, "null: all to read");
-    count(dw_write(2, 7, 5, NULL, 0, levels, 4, NULL, 0, file, sizeof file, &length), 4, "null: powers");
-    count(dw_write(2, 7, 5, levels, 4, NULL, 0, NULL, 0, file, sizeof file, &length), 4, "null: forces");
-    count(dw_write(2, 7, 5, levels, 4, levels, 4, NULL, 0, NULL, 0, &length), 4, "null: file");
-    count(dw_write(2, 7, 5, NULL, 0, NULL, 0, NULL, 0, NULL, 0, &length), 4, "null: all");
-    expect(n == 9 && f == 9 && g == 9 && length == 9 && at == 9 && size == 9, "null: refused");
-    count(dw_write(2, 7, 5, levels, 4, levels, 4, NULL, 0, file, sizeof file, &length), 0, "null: name");
-    count(dw_read(file, length, powers, 64, forces, 64, &n, &f, &g, &at, &size), 0, "null: name to read");
+    count(dw_sheet3(3, 9, 11, 13, NULL, 0), 4, "null: sheet of three");
+    count(dw_read(NULL, 0, powers, 64, forces, 64, times, 64, &n, &f, &g, &at, &size, &v, &h), 9, "null: file to read");
+    count(dw_read(file, room, NULL, 0, forces, 64, times, 64, &n, &f, &g, &at, &size, &v, &h), 4, "null: powers to read");
+    count(dw_read(file, room, powers, 64, NULL, 0, times, 64, &n, &f, &g, &at, &size, &v, &h), 4, "null: forces to read");
+    count(dw_read(file, room, powers, 64, forces, 64, NULL, 0, &n, &f, &g, &at, &size, &v, &h), 4, "null: times to read");
+    count(dw_read(NULL, 0, NULL, 0, NULL, 0, NULL, 0, &n, &f, &g, &at, &size, &v, &h), 4, "null: all to read");
+    count(dw_write(1, 2, 7, 5, 0, NULL, 0, levels, 4, NULL, 0, NULL, 0, file, room, &length), 4, "null: powers");
+    count(dw_write(1, 2, 7, 5, 0, levels, 4, NULL, 0, NULL, 0, NULL, 0, file, room, &length), 4, "null: forces");
+    count(dw_write(1, 2, 7, 5, 0, levels, 4, levels, 4, NULL, 0, NULL, 0, NULL, 0, &length), 4, "null: file");
+    count(dw_write(1, 2, 7, 5, 0, NULL, 0, NULL, 0, NULL, 0, NULL, 0, NULL, 0, &length), 4, "null: all");
+    count(dw_write(2, 3, 9, 11, 13, levels, 8, levels, 8, NULL, 0, NULL, 0, file, room, &length), 4, "null: times");
+    count(dw_write(2, 3, 9, 11, 13, levels, 8, levels, 8, levels, 8, NULL, 0, NULL, 0, &length), 4, "null: file of version 2");
+    count(dw_write(2, 3, 9, 11, 13, NULL, 0, NULL, 0, NULL, 0, NULL, 0, NULL, 0, &length), 4, "null: all of version 2");
+    expect(n == 9 && f == 9 && g == 9 && v == 9 && h == 9 && length == 9 && at == 9 && size == 9, "null: refused");
+    count(dw_write(2, 3, 9, 11, 13, levels, 8, levels, 8, levels, 8, NULL, 0, file, room, &length), 0, "null: name of version 2");
+    count(dw_read(file, length, powers, 64, forces, 64, times, 64, &n, &f, &g, &at, &size, &v, &h), 0, "null: version 2 to read");
+    expect(length == 30 && at == length && size == 0 && v == 2 && h == 13, "null: an empty name is at the end of version 2");
+    h = times[0] = 9;
+    count(dw_write(1, 2, 7, 5, 0, levels, 4, levels, 4, NULL, 0, NULL, 0, file, room, &length), 0, "null: name and times");
+    count(dw_read(file, length, powers, 64, forces, 64, times, 64, &n, &f, &g, &at, &size, &v, &h), 0, "null: name to read");
     expect(length == 13 && at == length && size == 0, "null: an empty name is at the file's end");
+    expect(v == 1 && h == 9 && times[0] == 9, "null: version 1 leaves the times and h");
 }
 
 /* A record that is copied, kept and taken to a position as the header says, by a mark that is written and put back; at the list's end the
@@ -985,6 +1448,11 @@ int main(int argc, char **argv)
     part("whole triples", whole_triples, 1, 12, 12, spent);
     part("whole chains", whole_chains, 1, 0, 0, 0);
     part("longest file", longest_file, 1, 15, 15, 0);
+    part("every three codes", every_three_codes, 1, 6, 9, four);
+    part("three squares", three_squares, 1, 4, 4, 0);
+    part("several causes", several_causes, 1, 14, 16, four | codes | bit(11) | twelve);
+    part("two damages", two_damages, 1, 6, 17, four);
+    part("damaged files", damaged_files, 1, 6, 17, 0);
     part("repeated levels", repeated_levels, 1, 14, 14, bit(7) | bit(9));
     part("null pointers", null_pointers, 1, 2, 2, four | bit(9));
     part("kept record", kept_record, 1, 3, 3, spent);
@@ -1001,9 +1469,10 @@ int main(int argc, char **argv)
     part("dw_longest_chains", try_longest_chains, 10 * scale, 1, 1, 0);
     part("dw_site", try_site, 300 * scale, 5, 7, one);
     part("dw_sheet", try_sheet, 20 * scale, 6, 8, four | twelve);
+    part("dw_sheet3", try_sheet3, 20 * scale, 6, 8, four | twelve);
     part("the walk", try_walk, 50 * scale, 18, 21, one | bit(3) | spent);
     part("whole walks", try_whole_walk, scale, 18, 20, spent);
-    part("dw_write", try_write, 200 * scale, 14, 16, four | codes | twelve);
+    part("dw_write", try_write, 200 * scale, 14, 16, four | codes | bit(11) | twelve);
     part("dw_read", try_read, 200 * scale, 6, 17, four);
     return 0;
 }

@@ -32,6 +32,7 @@ def reading(reply, powers, forces, name=b""):
     say("name:", *name)
     say("powers:", *padded(powers, 64))
     say("forces:", *padded(forces, 64))
+    say("times:", *padded([], 64))
 
 
 for n, count in LENGTHS.items():
@@ -60,7 +61,7 @@ for n in (0, 32):
     chain(n, 7, 5, "refused 1", [])
     say(f"site {n} 0 0: refused 1")
     say(f"start {n}: refused 1")
-reading(f"2 7 5 {len(FILE) - 1} 1", POWERS, FORCES, b"A")
+reading(f"2 7 5 {len(FILE) - 1} 1 1", POWERS, FORCES, b"A")
 reading("refused 17", [], [])
 reading("refused 9", [], [])
 say("write:", len(FILE))

@@ -34,9 +34,10 @@ def turns(degree, position, mark, given, bonder, times, entry, length):
         print(f"look: {look} draw: {draw} record: {degree} {position} 0 0 0 0 0 {mark} 0 0", *counts, *pair)
 
 
-def opened(reply, name=b"", powers=(), forces=()):
-    levels = [level for i in range(5) for level in ((powers[i] if i < len(powers) else 9), (forces[i] if i < len(forces) else 9))]
-    print("open:", reply, "name:", *name, "levels:", *levels)
+def opened(reply, name=b"", *lists):
+    """The answer, the name, and nine levels of each of the three slices in turn: 9 stood there before."""
+    slices = [[*levels, *[9] * 9] for levels in (*lists, (), (), ())]
+    print("open:", reply, "name:", *name, "levels:", *(slices[k][i] for i in range(9) for k in range(3)))
 
 
 third = pairs(3)
@@ -57,7 +58,10 @@ turns(31, LAST + 1, 2**64 - 1, 0, 0, 1, None, LAST + 1)
 turns(31, LAST + 2, 0, 0, 0, 1, None, LAST + 1)
 turns(0, 0, 0, 0, 0, 1, None, 0)
 turns(32, 0, 0, 0, 0, 1, None, 0)
-opened("2 7 5 18 3", b"A~ ", [100, 110, 120, 130], [200, 220, 240, 260])
+opened("2 7 5 18 3 1 0", b"A~ ", [100, 110, 120, 130], [200, 220, 240, 260])
 opened("refused 9")
 opened("refused 17")
 opened("refused 9")
+opened("3 9 11 30 2 2 13", b"S~", range(1, 9), range(16, 8, -1), range(90, 126, 5))
+opened("refused 9")
+opened("refused 17")

@@ -215,12 +215,43 @@ static uint32_t ref_symbol(uint32_t n, uint32_t code, uint32_t row, uint32_t col
     return symbol;
 }
 
+/* What several codes are refused for: the degree and the constant term of one after the other, then a common factor of any two. */
+static uint32_t ref_pairwise(uint32_t n, const uint32_t *codes, int many)
+{
+    uint32_t why = 0, quotients[64], divisor;
+    for (int i = 0; i < many && why == 0; i++)
+        why = ref_code(n, codes[i]);
+    for (int i = 0; i < many; i++)
+        for (int k = 0; k < i && why == 0; k++) {
+            ref_chain(codes[k], codes[i], quotients, &divisor);
+            why = divisor != 1 ? 8 : 0;
+        }
+    return why;
+}
+
+/* The sheet of several codes; gives how many bytes it has. */
+static size_t ref_sheet(uint32_t n, const uint32_t *codes, int many, uint8_t *sheet)
+{
+    size_t put = 0;
+    for (uint32_t row = 0; row < 1u << n; row++)
+        for (uint32_t col = 0; col < 1u << n; col++)
+            for (int i = 0; i < many; i++)
+                sheet[put++] = (uint8_t)ref_symbol(n, codes[i], row, col);
+    return put;
+}
+
 /* A file's content; the name is a part of the file. */
 typedef struct ref_trial {
-    uint32_t n, f, g;
-    uint16_t levels[2][64];
+    uint32_t version, n, codes[3];
+    uint16_t levels[3][64];
     size_t name, size;
 } ref_trial;
+
+/* How many codes a trial has, and how many lists. */
+static int ref_settings(uint32_t version)
+{
+    return version == 1 ? 2 : 3;
+}
 
 static uint32_t ref_number(const uint8_t *file, size_t length, size_t *at, uint32_t *number)
 {
@@ -264,20 +295,19 @@ static uint32_t ref_levels(const uint8_t *file, size_t length, size_t *at, uint3
 
 static uint32_t ref_head(const uint8_t *file, size_t length, size_t *at, ref_trial *t)
 {
-    uint32_t version, why;
-    if ((why = ref_number(file, length, at, &version)) != 0)
+    uint32_t why;
+    if ((why = ref_number(file, length, at, &t->version)) != 0)
         return why;
-    if (version != 1)
+    if (t->version != 1 && t->version != 2)
         return 11;
     if ((why = ref_number(file, length, at, &t->n)) != 0)
         return why;
     if (t->n < 2 || t->n > 6)
         return 12;
-    if ((why = ref_number(file, length, at, &t->f)) != 0 || (why = ref_code(t->n, t->f)) != 0)
-        return why;
-    if ((why = ref_number(file, length, at, &t->g)) != 0 || (why = ref_code(t->n, t->g)) != 0)
-        return why;
-    return ref_coprime(t->n, t->f, t->g);
+    for (int i = 0; i < ref_settings(t->version); i++)
+        if ((why = ref_number(file, length, at, &t->codes[i])) != 0 || (why = ref_code(t->n, t->codes[i])) != 0)
+            return why;
+    return ref_pairwise(t->n, t->codes, ref_settings(t->version));
 }
 
 static uint32_t ref_printable(const uint8_t *name, size_t size)
@@ -292,7 +322,7 @@ static uint32_t ref_read(const uint8_t *file, size_t length, ref_trial *t)
 {
     size_t at = 0;
     uint32_t size, why = ref_head(file, length, &at, t);
-    for (int i = 0; i < 2 && why == 0; i++)
+    for (int i = 0; why == 0 && i < ref_settings(t->version); i++)
         why = ref_levels(file, length, &at, 1u << t->n, t->levels[i]);
     if (why != 0 || (why = ref_number(file, length, &at, &size)) != 0)
         return why;
@@ -316,13 +346,12 @@ static size_t ref_put(uint8_t *out, size_t at, uint64_t number)
 }
 
 /* The bytes of a content, as they stand, right or wrong. */
-static size_t ref_encode(const ref_trial *t, const uint8_t *name, const size_t counts[2], uint8_t *out)
+static size_t ref_encode(const ref_trial *t, const uint8_t *name, const size_t *counts, uint8_t *out)
 {
-    size_t at = ref_put(out, 0, 1);
-    at = ref_put(out, at, t->n);
-    at = ref_put(out, at, t->f);
-    at = ref_put(out, at, t->g);
-    for (int list = 0; list < 2; list++)
+    size_t at = ref_put(out, ref_put(out, 0, t->version), t->n);
+    for (int i = 0; i < ref_settings(t->version); i++)
+        at = ref_put(out, at, t->codes[i]);
+    for (int list = 0; list < ref_settings(t->version); list++)
         for (size_t i = 0; i < counts[list]; i++)
             at = ref_put(out, at, t->levels[list][i]);
     at = ref_put(out, at, t->size);
@@ -331,16 +360,19 @@ static size_t ref_encode(const ref_trial *t, const uint8_t *name, const size_t c
 }
 
 /* What the writer refuses a content for, but for the room. */
-static uint32_t ref_content(const ref_trial *t, const uint8_t *name, const size_t counts[2])
+static uint32_t ref_content(const ref_trial *t, const uint8_t *name, const size_t *counts)
 {
+    if (t->version != 1 && t->version != 2)
+        return 11;
     if (t->n < 2 || t->n > 6)
         return 12;
-    uint32_t why = ref_coprime(t->n, t->f, t->g);
+    uint32_t why = ref_pairwise(t->n, t->codes, ref_settings(t->version));
     if (why != 0)
         return why;
-    if (counts[0] != (size_t)1 << t->n || counts[1] != (size_t)1 << t->n)
-        return 4;
-    for (int list = 0; list < 2; list++)
+    for (int list = 0; list < ref_settings(t->version); list++)
+        if (counts[list] != (size_t)1 << t->n)
+            return 4;
+    for (int list = 0; list < ref_settings(t->version); list++)
         for (size_t i = 1; i < counts[list]; i++)
             if (ref_repeated(t->levels[list], i))
                 return 14;

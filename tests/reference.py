@@ -6,6 +6,7 @@ trial files are read by a reader written from the documents. Run it to make crat
 With an argument the lists go up to that degree: reference.py 10"""
 import sys
 from functools import cache
+from itertools import combinations
 from math import comb
 
 
@@ -148,6 +149,13 @@ FILES = [
     bytes.fromhex("01 03 0B 0D AC 02 00 FF FF 03 01 80 08 7F 02 80 01 05 03 FF FF 03 00 83 18 04 80 08 06 02 53 7E"),
 ]
 
+# Of version 2: with levels of one byte and no name; with levels of up to three bytes, in no order.
+THREES = [
+    bytes.fromhex("02 03 09 0B 0D 01 02 03 04 05 06 07 08 10 0F 0E 0D 0C 0B 0A 09 5A 5F 64 69 6E 73 78 7D 00"),
+    bytes.fromhex("02 03 0D 0F 0B AC 02 00 FF FF 03 01 80 08 7F 02 80 01 05 03 FF FF 03 00 83 18 04 80 08 06")
+    + bytes.fromhex("00 81 80 01 7F 80 01 FF FF 03 01 81 08 81 10 02 53 7E"),
+]
+
 
 class Refused(Exception):
     """With the number of document 01."""
@@ -186,41 +194,56 @@ def code_at(file, at, n):
 
 
 def parsed(file):
-    """Degree, f, g, the name's place and length, and both lists of levels."""
+    """Degree, f, g, the name's place and length, the version and h, which is 0 at version 1; then two or three lists of levels."""
     version, at = number_at(file, 0)
-    must(version == 1, 11)
+    must(version in (1, 2), 11)
     n, at = number_at(file, at)
     must(2 <= n <= 6, 12)
-    f, at = code_at(file, at, n)
-    g, at = code_at(file, at, n)
-    must(chain(f, g)[1] == 1, 8)
-    powers, at = levels_at(file, at, 2**n)
-    forces, at = levels_at(file, at, 2**n)
+    codes, lists = [], []
+    for _ in range(version + 1):
+        code, at = code_at(file, at, n)
+        codes.append(code)
+    must(all(chain(f, g)[1] == 1 for f, g in combinations(codes, 2)), 8)
+    for _ in range(version + 1):
+        levels, at = levels_at(file, at, 2**n)
+        lists.append(levels)
     size, at = number_at(file, at)
     must(size <= 40, 15)
     must(at + size <= len(file), 9)
     must(all(32 <= byte <= 126 for byte in file[at : at + size]), 16)
     must(at + size == len(file), 17)
-    return [n, f, g, at, size], powers, forces
+    return [n, *codes[:2], at, size, version, codes[2] if version == 2 else 0], lists
 
 
 def reading(total, file):
-    """The answer behind both slices of 64 levels, in which 7 and 8 stood before."""
+    """The answer behind the three slices of 64 levels, in which 7, 8 and 9 stood before."""
     try:
-        answer, powers, forces = parsed(file)
+        answer, lists = parsed(file)
     except Refused as refused:
-        answer, powers, forces = refused.args, [], []
-    return mixed(total, *powers, *[7] * (64 - len(powers)), *forces, *[8] * (64 - len(forces)), *answer)
+        answer, lists = refused.args, []
+    for levels, before in zip((*lists, [], [], []), (7, 8, 9)):
+        total = mixed(total, *levels, *[before] * (64 - len(levels)))
+    return mixed(total, *answer)
 
 
-def damaged():
+def damaged(files):
     total = 0
-    for file in FILES:
+    for file in files:
         for at in range(len(file)):
             for value in range(256):
                 total = reading(total, file[:at] + bytes([value]) + file[at + 1 :])
         for size in range(len(file) + 1):
             total = reading(total, file[:size])
+    return total
+
+
+def coded():
+    """The first file of version 2 with every three codes from 7 to 16."""
+    total = 0
+    for f in range(7, 17):
+        for g in range(7, 17):
+            for h in range(7, 17):
+                total = reading(total, THREES[0][:2] + bytes([f, g, h]) + THREES[0][5:])
     return total
 
 
@@ -311,31 +334,54 @@ def unordered():
     print("unordered ends", mixed(0, *pair_at(31, 2 * (4**30 - 1) // 3 - 2), 2, 2, 2, 2, 1, 1))
 
 
+@cache
+def coprime_triples(n):
+    """Every three odd codes of degree n of which each two are coprime; None at a degree that is refused."""
+    if not 2 <= n <= 6:
+        return None
+    odd = range(2**n + 1, 2 ** (n + 1), 2)
+    coprime = {(f, g) for f in odd for g in odd if chain(f, g)[1] == 1}
+    return [(f, g, h) for f in odd for g in odd for h in odd if {(f, g), (f, h), (g, h)} <= coprime]
+
+
+def triple_at(n, position):
+    """The codes, or 12, or 255 for spent."""
+    listed = coprime_triples(n)
+    if listed is None:
+        return (12,)
+    return listed[position] if position < len(listed) else (255,)
+
+
 def triples():
-    """For each degree a checksum of its triples, every three odd codes of which each two are coprime, and of spent (255) from their end up
-    to position 11600, at 2^32 and at 2^64 - 1; degrees 1 and 7 always get 12. Then all triples of degree 3, the last of the other degrees,
-    and what is said behind them."""
-    listed = {1: None, 7: None}
-    for n in range(2, 7):
-        odd = range(2**n + 1, 2 ** (n + 1), 2)
-        coprime = {(f, g) for f in odd for g in odd if chain(f, g)[1] == 1}
-        listed[n] = [(f, g, h) for f in odd for g in odd for h in odd if {(f, g), (f, h), (g, h)} <= coprime]
-
-    def answer(n, position):
-        if listed[n] is None:
-            return (12,)
-        return listed[n][position] if position < len(listed[n]) else (255,)
-
+    """For each degree a checksum of its triples and of spent from their end up to position 11600, at 2^32 and at 2^64 - 1; degrees 1 and 7
+    always get 12. Then all triples of degree 3, the last of the other degrees, and what is said behind them."""
     for n in range(1, 8):
         total = 0
         for position in (*range(11600), 2**32, 2**64 - 1):
-            total = mixed(total, *answer(n, position))
+            total = mixed(total, *triple_at(n, position))
         print("triples", n, total)
     lines = [(3, position) for position in range(13)] + [(1, 0), (2, 0), (4, 149), (4, 150), (5, 1379), (5, 1380)]
     lines += [(6, position) for position in (0, 11573, 11574, 2**32, 2**64 - 1)] + [(7, 0), (7, 2**64 - 1)]
     for n, position in lines:
-        codes = answer(n, position)
+        codes = triple_at(n, position)
         print("triple", n, position, *(["spent"] if codes == (255,) else codes))
+
+
+def sheets3():
+    """For each degree a checksum of the sheets of twelve triples spread over its list, or of 12 or 255 where there is none. Then one of what
+    codes that make no sheet are refused by: their degree; the degree or constant term of f, of g, of h; any two that share a factor."""
+    for n, step in zip(range(1, 8), (1, 1, 1, 13, 115, 964, 1)):
+        total = 0
+        for i in range(12):
+            codes = triple_at(n, i * step)
+            if len(codes) == 1:
+                total = mixed(total, *codes)
+                continue
+            for row in range(2**n):
+                for col in range(2**n):
+                    total = mixed(total, *(symbol(n, code, row, col) for code in codes))
+        print("sheet3", n, total)
+    print("sheet3 refused", mixed(0, 12, 12, 6, 7, 6, 7, 6, 7, 8, 8, 8, 8))
 
 
 def walks():
@@ -387,7 +433,9 @@ if __name__ == "__main__":
     chain_lengths()
     unordered()
     triples()
+    sheets3()
     walks()
     print(spread(), 101)
-    print(damaged())
+    print(damaged(FILES))
     print(entries())
+    print("version 2", damaged(THREES), coded())

@@ -34,10 +34,10 @@ static size_t used(void (*job)(void))
 }
 
 /* What the calls are given, and what they return. */
-static uint32_t n, f, g, row, col, first, second, third, codes[256], status;
+static uint32_t version, n, f, g, h, row, col, first, second, third, codes[256], status;
 static uint64_t position, number;
-static uint16_t levels[DW_LEVELS_ROOM], powers[DW_LEVELS_ROOM], forces[DW_LEVELS_ROOM];
-static uint8_t name[DW_NAME_ROOM], file[DW_FILE_ROOM], sheet[DW_SHEET_ROOM];
+static uint16_t levels[DW_LEVELS_ROOM], powers[DW_LEVELS_ROOM], forces[DW_LEVELS_ROOM], times[DW_LEVELS_ROOM];
+static uint8_t name[DW_NAME_ROOM], file[DW_FILE_ROOM], sheet[DW_SHEET3_ROOM];
 static size_t room, length, count, offset;
 static dw_walk walk;
 
@@ -62,7 +62,7 @@ static void calls_unordered_pair_at(void)
 
 static void calls_triple_at(void)
 {
-    status = dw_triple_at(n, position, &first, &second, &third);
+    status = dw_triple_at(n, position, &f, &g, &h);
 }
 
 static void calls_pairs_from(void)
@@ -95,14 +95,21 @@ static void calls_sheet(void)
     status = dw_sheet(n, f, g, sheet, sizeof sheet);
 }
 
+static void calls_sheet3(void)
+{
+    status = dw_sheet3(n, f, g, h, sheet, sizeof sheet);
+}
+
 static void calls_read(void)
 {
-    status = dw_read(file, length, powers, DW_LEVELS_ROOM, forces, DW_LEVELS_ROOM, &first, &f, &g, &offset, &count);
+    status = dw_read(file, length, powers, DW_LEVELS_ROOM, forces, DW_LEVELS_ROOM, times, DW_LEVELS_ROOM, &first, &f, &g, &offset, &count,
+                     &second, &third);
 }
 
 static void calls_write(void)
 {
-    status = dw_write(n, f, g, levels, (size_t)1 << n, levels, (size_t)1 << n, name, sizeof name, file, sizeof file, &length);
+    size_t order = (size_t)1 << n;
+    status = dw_write(version, n, f, g, h, levels, order, levels, order, levels, order, name, sizeof name, file, sizeof file, &length);
 }
 
 static void calls_start(void)
@@ -140,17 +147,17 @@ static struct {
     { "dw_pair_at", calls_pair_at, 0 }, { "dw_unordered_pair_at", calls_unordered_pair_at, 0 }, { "dw_pairs_from", calls_pairs_from, 0 },
     { "dw_position_of", calls_position_of, 0 }, { "dw_chain", calls_chain, 0 }, { "dw_site", calls_site, 0 },
     { "dw_look", calls_look, 0 }, { "dw_draw", calls_draw, 0 }, { "dw_set_mark", calls_set_mark, 0 }, { "dw_go_back", calls_go_back, 0 },
-    /* With a degree of sheets. */
-    { "dw_sheet", calls_sheet, 0 }, { "dw_write", calls_write, 0 }, { "dw_read", calls_read, 0 },
     /* With a position among triples. */
-    { "dw_triple_at", calls_triple_at, 0 },
+    { "dw_triple_at", calls_triple_at, 0 }, { "dw_sheet3", calls_sheet3, 0 },
+    /* With a degree of sheets, and for files a version. */
+    { "dw_write", calls_write, 0 }, { "dw_read", calls_read, 0 }, { "dw_sheet", calls_sheet, 0 },
 };
-enum { PLACED = 3, OF_SHEETS = 13, OF_TRIPLES = 16, CALLS = sizeof calls / sizeof calls[0] };
+enum { PLACED = 3, OF_TRIPLES = 13, OF_SHEETS = 15, CALLS = sizeof calls / sizeof calls[0] };
 
 static int served = 1;
 
-/* Some of the calls one after the other; those that take codes take the pair of dw_pair_at, and dw_read takes what
- * dw_write wrote. */
+/* Some of the calls one after the other; those that take codes take the pair of dw_pair_at or the triple of dw_triple_at, and dw_read takes
+ * what dw_write wrote. */
 static void measure(size_t from, size_t to)
 {
     for (size_t i = from; i < to; i++) {
@@ -188,15 +195,17 @@ int main(void)
         position = i % 2 ? draw(number) : number - 1 - draw(UINT64_MAX >> draw(64)) % number;
         walk.degree = n;
         walk.position = position;
-        measure(PLACED, OF_SHEETS);
+        measure(PLACED, OF_TRIPLES);
     }
+    version = 1;
     for (n = 2; n <= 6; n++) {
         measure(0, PLACED);
         position = number - 1;
         measure(PLACED, PLACED + 1);
-        measure(OF_SHEETS, OF_TRIPLES);
+        measure(OF_SHEETS, CALLS);
     }
     /* Degree 2 has no triple to serve. */
+    version = 2;
     for (uint32_t i = 0; i < ROUNDS; i++) {
         n = 3 + i % 4;
         position = draw(triples[i % 4]);

@@ -1,23 +1,26 @@
 -- The odd binary codes by their halves, and the table's sets: which codes their members are.
-use Prim.Native.Nat.{ℕ, zero, suc, _+_, _-_, _*_, _%_, _^_, _≤_, _<_}
+use Prim.Native.Nat.{ℕ, zero, suc, _+_, _-_, _*_, _/_, _%_, _^_, _≤_, _<_}
 use native.Mathlib.Nat.{pow-suc, pow-le-pow-right, le-refl, lt-of-lt-of-le}
 use native.Mathlib.Omega.{arith}
-use mathlib.Core.Bool.{Bool, false, not, _&&_}
+use mathlib.Core.Bool.{Bool, false, cond, not, _&&_}
 use mathlib.Core.List.{List, map}
 use mathlib.Core.Path.{_≡_, refl, ap, _∙_}
 use lib.Bits.{bitAnd}
 use lib.Dec.{eqb, lit<}
-use lib.ListN.{length}
+use lib.ListN.{length, getD}
 use lib.Pow.{pow-pos}
 use Rattle.loops.specs.Loops.{numbers, filter}
 use Rattle.loops.proofs.Loops.{listed-numbers, listed-map}
 use Rattle.poly.specs.Code.{degree, HasDegree}
+use Rattle.poly.specs.Coprime.{gcd}
 use Rattle.poly.specs.Limits.{outside}
 use Rattle.poly.proofs.Leading
 use Rattle.poly.proofs.Ranges.{inside}
 use Rattle.codes.specs.Sets.{setOf, members}
 use Rattle.codes.specs.Codes.{monicCodes, coprime, coprimeSet, fromHalf, coprimesOf}
-use Rattle.codes.proofs.Sets.{members-pass, set-lt, set-both}
+use Rattle.codes.specs.Inner.{InTable}
+use Rattle.codes.proofs.Sets.{members-pass, set-lt, set-bit, set-both}
+use Rattle.codes.proofs.Codes.{coprime-binary}
 
 -- half of the least code of degree n, and the code at an index
 abbrev pub least : ℕ → ℕ
@@ -70,7 +73,7 @@ module _ {n half : ℕ} (code : Half n half) where
       let top : 2 ^ n ≤ 2 ^ 6 = pow-le-pow-right (lit< tt) {i = n} {j = 6} (code .high) in
       omega (arith, code .below)
 
-  few : least n ≤ 32
+  pub few : least n ≤ 32
   few = pow-le-pow-right (lit< tt) {i = n - 1} {j = 5} (omega (arith, code .high))
 
   in-table : outside 1 63 half ≡ false
@@ -110,3 +113,33 @@ module _ {n half other : ℕ} (code : Half n half) (code′ : Half n other) wher
         set-both (coprime 2 (fromHalf half)) (coprime 2 (fromHalf other)) (map (codeAt n) (numbers 0 (least n))),
       )
       (members-pass (codeAt n) (λ h. coprime 2 (fromHalf half) h && coprime 2 (fromHalf other) h) (least n) (few code))
+
+-- ---- codes that may stand at one of the table's degrees
+module _ {n code : ℕ} (stands : InTable n code) where
+  pub half-of : Half n (code / 2)
+  half-of = record {
+    low = stands .low;
+    high = stands .high;
+    from = omega (arith, doubled n (stands .low), stands .degree-is .low);
+    below = omega (arith, pow-suc 2 n, stands .degree-is .high);
+  }
+
+  whole : fromHalf (code / 2) ≡ code
+  whole = omega (arith, stands .constant)
+
+  pub index-lt : code / 2 - least n < least n
+  index-lt = omega (arith, doubled n (stands .low), half-of .from, half-of .below, pow-pos (n - 1))
+
+  at-index : codeAt n (0 + (code / 2 - least n)) ≡ code
+  at-index = omega (arith, half-of .from, stands .constant)
+
+-- The bit of one code in the set of another.
+pub coprime-bit : {n f g : ℕ} → InTable n f → InTable n g
+    → coprimesOf (f / 2) / 2 ^ (g / 2 - least n) % 2 ≡ cond (eqb (gcd 2 f g) 1) 1 0
+coprime-bit {n} {f} {g} in-f in-g =
+    let k : ℕ = g / 2 - least n in
+    let xs : List ℕ = map (codeAt n) (numbers 0 (least n)) in
+    let listed = listed-map (codeAt n) 0 (listed-numbers 0 (least n)) in
+    let is : getD xs k 0 ≡ g = listed .stands k (index-lt in-g) ∙ at-index in-g in
+    rw (set-of (half-of in-f), whole in-f, set-bit (coprime 2 f) xs k (rw (listed .long) (index-lt in-g)), is)
+    (ap (λ (b : Bool). cond b 1 0) (coprime-binary f g (omega (arith, pow-pos n, in-f .degree-is .low))))

@@ -1,17 +1,17 @@
 -- Sets of indices: how many members a set has, which is the first, and that the set of what passes a test in a list has its indices as
 -- members. All by recursion over the bits, lowest first.
 use Prim.Native.Nat.{ℕ, zero, suc, _+_, _-_, _*_, _/_, _%_, _^_, _≤_, _<_, min}
-use native.Mathlib.Nat.{eq-zero-or-pos, pow-suc, add-zero, zero-add, add-suc, suc-add, mod-lt}
+use native.Mathlib.Nat.{eq-zero-or-pos, pow-suc, pow-succ', add-zero, zero-add, add-suc, suc-add, mod-lt, div-one, div-div-eq-div-mul}
 use native.Mathlib.Omega.{arith}
 use mathlib.Core.Bool.{Bool, true, false, cond, _&&_}
 use mathlib.Core.List.{List, [], _∷_, map, List·Memᴰ, List·Memᴰ·not-nil, List·Memᴰ·cases-cons}
 use mathlib.Core.Logic.{_⊎_, inl, inr}
-use mathlib.Core.Path.{_≡_, refl, ap, ap₂, _∙_}
+use mathlib.Core.Path.{_≡_, refl, sym, ap, ap₂, _∙_}
 use lib.Arith.{digits-div, digits-mod}
 use lib.Bits.{bitAnd, and-step, and-self}
 use lib.Count.{ones, ones-step, trailingZeros}
 use lib.Dec.{eqb}
-use lib.ListN.{length}
+use lib.ListN.{length, getD}
 use Rattle.loops.specs.Loops.{numbers, filter}
 use Rattle.codes.specs.Sets.{setOf, membersFrom, members}
 
@@ -134,6 +134,18 @@ members-lt b set h m = rw zero-add at (member-lt 0 32 b set h m)
 pub set-lt : (test : ℕ → Bool) (xs : List ℕ) → setOf test xs < 2 ^ length xs
 set-lt test [] = omega arith
 set-lt test (x ∷ xs) = let ih : _ = set-lt test xs in omega (arith, pow-suc 2 (length xs), low 0 0 0 (test x))
+
+-- A bit tells whether the entry at its place passes.
+pub set-bit : (test : ℕ → Bool) (xs : List ℕ) (k : ℕ) → k < length xs → setOf test xs / 2 ^ k % 2 ≡ cond (test (getD xs k 0)) 1 0
+set-bit test [] k h = absurd (omega arith)
+set-bit test (x ∷ xs) zero h =
+    ap (λ (v : ℕ). v % 2) (div-one (setOf test (x ∷ xs))) ∙ digits-mod (setOf test xs) (low 0 0 0 (test x))
+set-bit test (x ∷ xs) (suc k) h =
+    let s : ℕ = setOf test (x ∷ xs) in
+    ap (λ (v : ℕ). v % 2)
+    (ap (λ (v : ℕ). s / v) (pow-succ' 2 k) ∙ sym (div-div-eq-div-mul s 2 (2 ^ k))
+    ∙ ap (λ (v : ℕ). v / 2 ^ k) (digits-div (setOf test xs) (low 0 0 0 (test x))))
+    ∙ set-bit test xs k (omega arith)
 
 -- The set of what passes two tests.
 pub set-both : (test other : ℕ → Bool) (xs : List ℕ) → bitAnd (setOf test xs) (setOf other xs) ≡ setOf (λ x. test x && other x) xs

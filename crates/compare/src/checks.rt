@@ -1,4 +1,4 @@
-// Checksums of the arithmetic, the chain call, the site call and the sheet call.
+// Checksums of the arithmetic, the chain call, the site call and the sheet calls.
 use crate::random::code;
 use crate::random::low_bits;
 use crate::random::mixed;
@@ -136,4 +136,55 @@ pub fn sheet_sum() -> u64 {
     let s = sheet(s, 4, 19, 17);
     let s = sheet(s, 5, 37, 59);
     sheet(s, 6, 67, 97)
+}
+
+fn sheet3(sum: u64, n: u32, f: u32, g: u32, h: u32) -> u64 {
+    let mut sheet = [0u8; 12288];
+    match squares::sheet3(n, f, g, h, &mut sheet) {
+        squares::Laid::Done => bytes(sum, &sheet, 3usize << (2 * (n % 7))),
+        squares::Laid::Refused(refusal) => mixed(sum, refusal.number() as u64),
+    }
+}
+
+// The sheet of the triple at a position, or what is said in its place.
+fn triple_sheet(sum: u64, n: u32, position: u64) -> u64 {
+    match triples::triple_at(n, position) {
+        triples::Entry::Codes(f, g, h) => sheet3(sum, n, f, g, h),
+        triples::Entry::Spent => mixed(sum, 255),
+        triples::Entry::Refused(refusal) => mixed(sum, refusal.number() as u64),
+    }
+}
+
+// The i-th of twelve positions spread over a list of triples.
+fn spread(n: u32, i: u64) -> u64 {
+    if n == 4 {
+        return i % 12 * 13;
+    }
+    if n == 5 {
+        return i % 12 * 115;
+    }
+    if n == 6 {
+        return i % 12 * 964;
+    }
+    i % 12
+}
+
+// Their sheets.
+pub fn sheet3_sum(n: u32) -> u64 {
+    let mut sum: u64 = 0;
+    for i in 0..12u64 {
+        sum = triple_sheet(sum, n, spread(n, i));
+    }
+    sum
+}
+
+// Codes that make no sheet: degrees 1 and 7; f and g of another degree or even, and h where f and g share a factor; each two of three
+// that share one, 9 and 15; degree 2, which has no triple.
+pub fn refused3_sum() -> u64 {
+    let s = sheet3(sheet3(0, 1, 3, 3, 3), 7, 131, 137, 143);
+    let s = sheet3(sheet3(s, 3, 19, 11, 13), 3, 8, 11, 13);
+    let s = sheet3(sheet3(s, 3, 9, 5, 13), 3, 9, 10, 13);
+    let s = sheet3(sheet3(s, 3, 9, 15, 5), 3, 9, 15, 12);
+    let s = sheet3(sheet3(s, 3, 9, 15, 11), 3, 9, 11, 15);
+    sheet3(sheet3(s, 3, 11, 9, 15), 2, 7, 5, 7)
 }

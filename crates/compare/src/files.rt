@@ -111,6 +111,92 @@ const SHUFFLED: [u8; 32] = [
     126,
 ];
 
+// Version 2, degree 3, with levels of one byte and without a name.
+const THREE: [u8; 30] = [
+    2,
+    3,
+    9,
+    11,
+    13,
+    1,
+    2,
+    3,
+    4,
+    5,
+    6,
+    7,
+    8,
+    16,
+    15,
+    14,
+    13,
+    12,
+    11,
+    10,
+    9,
+    90,
+    95,
+    100,
+    105,
+    110,
+    115,
+    120,
+    125,
+    0,
+];
+
+// Version 2, with levels of one to three bytes, in no order.
+const WIDE_THREE: [u8; 48] = [
+    2,
+    3,
+    13,
+    15,
+    11,
+    172,
+    2,
+    0,
+    255,
+    255,
+    3,
+    1,
+    128,
+    8,
+    127,
+    2,
+    128,
+    1,
+    5,
+    3,
+    255,
+    255,
+    3,
+    0,
+    131,
+    24,
+    4,
+    128,
+    8,
+    6,
+    0,
+    129,
+    128,
+    1,
+    127,
+    128,
+    1,
+    255,
+    255,
+    3,
+    1,
+    129,
+    8,
+    129,
+    16,
+    2,
+    83,
+    126,
+];
+
 fn level(x: u16) -> u64 {
     x as u64
 }
@@ -125,19 +211,21 @@ fn levels(sum: u64, slice: &[u16]) -> u64 {
     total
 }
 
-// The reader's answer and both slices afterwards.
+// The reader's answer and the three slices afterwards.
 fn reading(sum: u64, file: &[u8]) -> u64 {
     let mut powers = [7u16; 64];
     let mut forces = [8u16; 64];
-    let answer = trial_reader::read(file, &mut powers, &mut forces);
-    let s = levels(levels(sum, &powers), &forces);
+    let mut times = [9u16; 64];
+    let answer = trial_reader::read(file, &mut powers, &mut forces, &mut times);
+    let s = levels(levels(levels(sum, &powers), &forces), &times);
     match answer {
         trial_reader::ReadTrial::Content(content) => {
             let s = mixed(
                 mixed(mixed(s, content.degree as u64), content.f as u64),
                 content.g as u64,
             );
-            mixed(mixed(s, content.name_at as u64), content.size as u64)
+            let s = mixed(mixed(s, content.name_at as u64), content.size as u64);
+            mixed(mixed(s, content.version as u64), content.h as u64)
         }
         trial_reader::ReadTrial::Refused(refusal) => mixed(s, refusal.number() as u64),
     }
@@ -212,6 +300,42 @@ fn damaged(sum: u64, file: &[u8]) -> u64 {
 pub fn damaged_sum() -> u64 {
     let s = damaged(damaged(0, &PLAIN), &WIDE);
     damaged(damaged(s, &NAMELESS), &SHUFFLED)
+}
+
+// The same for files of version 2.
+pub fn damaged3_sum() -> u64 {
+    damaged(damaged(0, &THREE), &WIDE_THREE)
+}
+
+// A byte of the first file of version 2 with the i-th three of the codes from 7 to 16.
+fn coded_byte(i: u32, at: usize) -> u8 {
+    if at == 2 {
+        return (7 + i / 100 % 10) as u8;
+    }
+    if at == 3 {
+        return (7 + i / 10 % 10) as u8;
+    }
+    if at == 4 {
+        return (7 + i % 10) as u8;
+    }
+    if at < 30 { THREE[at] } else { 0 }
+}
+
+fn coded(sum: u64, i: u32) -> u64 {
+    let mut bytes = [0u8; 64];
+    for at in 0..64usize {
+        bytes[at] = coded_byte(i, at);
+    }
+    array_front(sum, &bytes, 30)
+}
+
+// The file with every three of them.
+pub fn coded_sum() -> u64 {
+    let mut total: u64 = 0;
+    for i in 0..1000u32 {
+        total = coded(total, i);
+    }
+    total
 }
 
 // Document 01's file with a name of `size` letters, as far as 64 bytes go.

@@ -151,6 +151,20 @@ fn triple_ends() {
     triple_line(7, 18446744073709551615);
 }
 
+// Degree and checksum of twelve sheets of three codes; degrees 1 and 7 are refused, and degree 2 has no triple.
+fn sheet3_line(n: u32) {
+    io::write_all(STDOUT_FILENO, b"sheet3 ");
+    number(n as u64);
+    io::write_all(STDOUT_FILENO, b" ");
+    line(checks::sheet3_sum(n));
+}
+
+fn sheet3_lines() {
+    for n in 1..8u32 {
+        sheet3_line(n);
+    }
+}
+
 // Degree and checksum of a walk with marks and bonders; degrees 0 and 32 are refused throughout.
 fn walk_line(n: u32) {
     io::write_all(STDOUT_FILENO, b"walk ");
@@ -179,10 +193,17 @@ fn main() {
     triples_lines();
     triple_lines();
     triple_ends();
+    sheet3_lines();
+    io::write_all(STDOUT_FILENO, b"sheet3 refused ");
+    line(checks::refused3_sum());
     walk_lines();
     number(lists::spread_sum());
     io::write_all(STDOUT_FILENO, b" ");
     line(lists::spread_found());
     line(files::damaged_sum());
     line(files::entries_sum());
+    io::write_all(STDOUT_FILENO, b"version 2 ");
+    number(files::damaged3_sum());
+    io::write_all(STDOUT_FILENO, b" ");
+    line(files::coded_sum());
 }

@@ -2,7 +2,7 @@
 -- call that stores one only where it returns 0.
 use mathlib.Core.Path.{_≡_, refl, sym, ap, subst, _∙_}
 use mathlib.Core.Bool.{Bool, true, false, not}
-use mathlib.Core.List.{List, [], _∷_}
+use mathlib.Core.List.{[], _∷_}
 use Prim.Native.Nat.{ℕ}
 use native.Mathlib.Omega.{arith}
 use lib.Dec.{T, T-not, eqb, eqb→eq}
@@ -24,9 +24,6 @@ module _ {answer reply : Reply} (e : answer ≡ reply) where
 
   pub holds : (i old : ℕ) → value i answer old ≡ value i reply old
   holds i old = ap (λ (r : Reply). value i r old) e
-
-  pub pointed : (part : List ℕ) → after reply part [] ≡ after answer part []
-  pointed part = ap (λ (r : Reply). after r part []) (sym e)
 
 -- what is said of an answer's reply is said of the reply that it is known to be
 pub changes : {answer reply : Reply} {changed walk walk′ : Walk} {s : ℕ} → (answer ≡ reply) × (walk ≡ changed)

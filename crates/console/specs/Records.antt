@@ -4,20 +4,17 @@ use mathlib.Core.List.{List, []}
 use mathlib.Core.Path.{_≡_}
 use lib.ListN.{length, take, drop}
 use Rattle.reply.specs.Reply.{Reply, after}
-use Rattle.trial.specs.Parser.{Parsed}
 use Rattle.trial.specs.Trial.{Trial}
-use Rattle.trial.specs.Replies.{read, readReply, nameRead, levelsAfter, writeReply, fileAfter}
+use Rattle.trial.specs.Replies.{readReply, nameRead, levelsAfter, writeReply, fileAfter}
+use Rattle.trial_reader.specs.Answers.{readInto}
 use Rattle.walk.specs.declared.Walk.{Walk}
 use Rattle.walk.specs.Walks.{begun, startReply, lookReply, drawReply, afterDraw, setMarkReply, afterSetMark, goBackReply, afterGoBack}
 use Rattle.console.specs.Status.{status, value}
 
--- What reading a file gives, with these two slices lent for the levels.
-abbrev pub readInto : List ℕ → List ℕ → List ℕ → Parsed Trial
-readInto file powers forces = read (length powers) (length forces) file
-
--- The reply to it: degree, f, g, and the name's offset and length.
-abbrev pub trialReply : List ℕ → List ℕ → List ℕ → Reply
-trialReply file powers forces = readReply (length file) (readInto file powers forces)
+-- The reply to reading a file with these slices lent for the levels: degree, f, g, the name's offset and length, the version and, in
+-- version 2, h.
+abbrev pub trialReply : List ℕ → List ℕ → List ℕ → List ℕ → Reply
+trialReply file powers forces times = readReply (length file) (readInto file powers forces times)
 
 -- A call that changes a record and gives no values: what it returns, and the record after it.
 pub record Changes (reply : Reply) (changed walk′ : Walk) (r : ℕ) : Type 0 where
@@ -48,19 +45,37 @@ pub record Draws (walk : Walk) (bonder : ℕ) (walk′ : Walk) (f g f′ g′ r 
   pub answered : Gives (drawReply walk bonder) f g f′ g′ r
   pub moved : walk′ ≡ afterDraw walk bonder
 
--- Reading a file: what it returns, the two slices of levels after it, and what stands behind the five pointers after it, with what stood
--- there before; and that the part of the file which the last two point at is the name.
-pub record TrialRead (file powers forces : List ℕ) (degree f g name size : ℕ) (powers′ forces′ : List ℕ) (degree′ f′ g′ name′ size′ r : ℕ)
+-- What stands behind the seven pointers for the values of a file.
+pub record FileValues : Type 0 where
+  pub degree : ℕ
+  pub f : ℕ
+  pub g : ℕ
+  pub name : ℕ
+  pub size : ℕ
+  pub version : ℕ
+  pub h : ℕ
+
+abbrev pub fileValues : ℕ → ℕ → ℕ → ℕ → ℕ → ℕ → ℕ → FileValues
+fileValues degree f g name size version h =
+    record { degree = degree; f = f; g = g; name = name; size = size; version = version; h = h }
+
+-- What stands there after a call with this reply: in version 1 there is no value for h.
+abbrev pub valuesAfter : Reply → FileValues → FileValues
+valuesAfter reply old =
+    fileValues (value 0 reply (old .degree)) (value 1 reply (old .f)) (value 2 reply (old .g)) (value 3 reply (old .name))
+    (value 4 reply (old .size)) (value 5 reply (old .version)) (value 6 reply (old .h))
+
+-- Reading a file: what it returns, the slices of levels after it, and what stands behind the pointers after it, with what stood there
+-- before; and that the part of the file at the name's offset, of the name's length, is the name.
+pub record TrialRead (file powers forces times : List ℕ) (old : FileValues) (powers′ forces′ times′ : List ℕ) (new : FileValues) (r : ℕ)
     : Type 0 where
-  pub returned : r ≡ status (trialReply file powers forces)
-  pub powersAfter : powers′ ≡ levelsAfter (λ t. t .powers) (readInto file powers forces) powers
-  pub forcesAfter : forces′ ≡ levelsAfter (λ t. t .forces) (readInto file powers forces) forces
-  pub degreeAfter : degree′ ≡ value 0 (trialReply file powers forces) degree
-  pub fAfter : f′ ≡ value 1 (trialReply file powers forces) f
-  pub gAfter : g′ ≡ value 2 (trialReply file powers forces) g
-  pub nameAfter : name′ ≡ value 3 (trialReply file powers forces) name
-  pub sizeAfter : size′ ≡ value 4 (trialReply file powers forces) size
-  pub named : after (trialReply file powers forces) (take size′ (drop name′ file)) [] ≡ nameRead (readInto file powers forces)
+  pub returned : r ≡ status (trialReply file powers forces times)
+  pub powersAfter : powers′ ≡ levelsAfter 0 (readInto file powers forces times) powers
+  pub forcesAfter : forces′ ≡ levelsAfter 1 (readInto file powers forces times) forces
+  pub timesAfter : times′ ≡ levelsAfter 2 (readInto file powers forces times) times
+  pub stored : new ≡ valuesAfter (trialReply file powers forces times) old
+  pub named : after (trialReply file powers forces times) (take (new .size) (drop (new .name) file)) []
+      ≡ nameRead (readInto file powers forces times)
 
 -- Writing a file: what it returns, the slice after it, and what stands behind the pointer for the length.
 pub record TrialWritten (t : Trial) (out : List ℕ) (size : ℕ) (out′ : List ℕ) (size′ r : ℕ) : Type 0 where

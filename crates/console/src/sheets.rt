@@ -4,7 +4,7 @@ use squares::Symbols;
 ghost use mathlib.Core.Path.{_≡_};
 ghost use lib.ListN.{length};
 ghost use Rattle.console.specs.Status.{status, value};
-ghost use Rattle.squares.specs.Replies.{siteReply, sheetReply, sheetBytes};
+ghost use Rattle.squares.specs.Replies.{siteReply, sheetReply, sheetBytes, sheet3Reply, sheet3Bytes};
 
 // Both symbols at a site.
 #[no_mangle]
@@ -39,6 +39,19 @@ pub extern "C" fn dw_sheet(n: u32, f: u32, g: u32, out: &mut [u8]) -> u32
     ensures { λ _. ⌜ now (out .exit) ≡ sheetBytes n f g (now (out .entry)) ⌝ }
 {
     let answer = squares::sheet(n, f, g, out);
+    match answer {
+        Laid::Refused(refusal) => refusal.number(),
+        Laid::Done => 0,
+    }
+}
+
+// The sheet of f, g and h, into the first 3 × 4^n bytes lent.
+#[no_mangle]
+pub extern "C" fn dw_sheet3(n: u32, f: u32, g: u32, h: u32, out: &mut [u8]) -> u32
+    ensures { λ r. ⌜ r ≡ status (sheet3Reply n f g h (length (now (out .entry)))) ⌝ }
+    ensures { λ _. ⌜ now (out .exit) ≡ sheet3Bytes n f g h (now (out .entry)) ⌝ }
+{
+    let answer = squares::sheet3(n, f, g, h, out);
     match answer {
         Laid::Refused(refusal) => refusal.number(),
         Laid::Done => 0,

@@ -14,17 +14,17 @@ use Rattle.positions.specs.Replies.{positionReply}
 use Rattle.squares.specs.Symbols.{outputCell, symbol}
 use Rattle.listing.specs.Replies.{pairsFrom, fromReply}
 use Rattle.squares.specs.Sheets.{sheet}
-use Rattle.squares.specs.Replies.{siteReply, sheetReply, sheetOf, sheetBytes}
+use Rattle.squares.specs.Replies.{siteReply, sheetReplyOf, sheetOf, sheetBytesOf}
 use Rattle.walk.specs.Walks.{nextPair, badRecord, lookReply, drawReply, afterDraw}
 use Rattle.trial.specs.Number.{encodeNumber, parseNumber}
-use Rattle.trial.specs.Trial.{encodeHead, encodeBody, encode, parseCodes, parseHead, parseText, parseName, parseEnd, parseBody, parse}
+use Rattle.trial.specs.Trial.{encodeHead, encodeBody, encode, parseCoprime, parseHead, parseText, parseName, parseEnd, parseBody, parse}
 use Rattle.trial.specs.Replies.{contentCauses, read, writeReply}
 use Rattle.edges.specs.Table.{EdgesClaim}
 
 pub edges : EdgesClaim
 unfolding add mul scale degree inverse bringDown divide gcd outside offDegree codeCauses
     chain wordsFrom compositions sequences block turn build pairs pairAtReply
-    positionReply pairsFrom fromReply outputCell symbol siteReply sheet sheetReply sheetOf sheetBytes nextPair badRecord lookReply drawReply
-    afterDraw encodeNumber parseNumber encodeHead encodeBody encode parseCodes parseHead
+    positionReply pairsFrom fromReply outputCell symbol siteReply sheet sheetReplyOf sheetOf sheetBytesOf nextPair badRecord lookReply
+    drawReply afterDraw encodeNumber parseNumber encodeHead encodeBody encode parseCoprime parseHead
     parseText parseName parseEnd parseBody parse contentCauses read writeReply
 edges = refl

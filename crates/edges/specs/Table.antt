@@ -13,6 +13,7 @@ use Rattle.listing.specs.Replies.{fromReply}
 use Rattle.squares.specs.Replies.{siteReply, sheetReply, sheetBytes}
 use Rattle.walk.specs.declared.Walk.{Walk}
 use Rattle.walk.specs.Walks.{startReply, started, lookReply, drawReply, afterDraw}
+use Rattle.trial.specs.Parser.{Parsed}
 use Rattle.trial.specs.Trial.{Trial, trialFrom}
 use Rattle.trial.specs.Replies.{read, readReply, nameRead, levelsAfter, writeReply, fileAfter}
 
@@ -129,20 +130,25 @@ powers = 100 ∷ 110 ∷ 120 ∷ 130 ∷ []
 abbrev pub forces : List ℕ
 forces = 200 ∷ 220 ∷ 240 ∷ 260 ∷ []
 
--- Its content: degree 2, the pair (7,5), and the name A.
+-- Its content: version 1, degree 2, the pair (7,5), and the name A. What is given for a third code and a third list is left out.
 abbrev pub trial : Trial
-trial = trialFrom 2 7 5 powers forces (0x41 ∷ [])
+trial = trialFrom 1 2 (7 ∷ 5 ∷ 0 ∷ []) (powers ∷ forces ∷ [] ∷ []) (0x41 ∷ [])
+
+-- What is read, with room for 64 levels in each of three slices.
+abbrev pub content : List ℕ → Parsed Trial
+content bytes = read (64 ∷ 64 ∷ 64 ∷ []) bytes
 
 abbrev pub reading : List ℕ → Reply
-reading bytes = readReply (length bytes) (read 64 64 bytes)
+reading bytes = readReply (length bytes) (content bytes)
 
 abbrev pub files : List Case
 files =
-    -- degree, f, g, and that the name is the one byte at 18
-    reading file is served (2 ∷ 7 ∷ 5 ∷ 18 ∷ 1 ∷ [])
-    ∷ served (nameRead (read 64 64 file)) is served (0x41 ∷ [])
-    ∷ served (levelsAfter (λ t. t .powers) (read 64 64 file) (zeros 64)) is served (powers ++ zeros 60)
-    ∷ served (levelsAfter (λ t. t .forces) (read 64 64 file) (zeros 64)) is served (forces ++ zeros 60)
+    -- degree, f, g, that the name is the one byte at 18, and the version
+    reading file is served (2 ∷ 7 ∷ 5 ∷ 18 ∷ 1 ∷ 1 ∷ [])
+    ∷ served (nameRead (content file)) is served (0x41 ∷ [])
+    ∷ served (levelsAfter 0 (content file) (zeros 64)) is served (powers ++ zeros 60)
+    ∷ served (levelsAfter 1 (content file) (zeros 64)) is served (forces ++ zeros 60)
+    ∷ served (levelsAfter 2 (content file) (zeros 64)) is served (zeros 64)
     ∷ reading (file ++ (0 ∷ [])) is refused 17
     ∷ reading (take 18 file) is refused 9
     ∷ writeReply trial 19 is served (19 ∷ [])

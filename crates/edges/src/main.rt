@@ -192,8 +192,9 @@ fn sheet() {
 fn read(file: &[u8]) {
     let mut powers = [9u16; 64];
     let mut forces = [9u16; 64];
+    let mut times = [9u16; 64];
     text(b"read:");
-    let answer = trial_reader::read(file, &mut powers, &mut forces);
+    let answer = trial_reader::read(file, &mut powers, &mut forces, &mut times);
     match answer {
         ReadTrial::Content(content) => {
             number(content.degree as u64);
@@ -201,6 +202,7 @@ fn read(file: &[u8]) {
             number(content.g as u64);
             number(content.name_at as u64);
             number(content.size as u64);
+            number(content.version as u64);
         }
         ReadTrial::Refused(refusal) => refused(refusal),
     }
@@ -210,6 +212,8 @@ fn read(file: &[u8]) {
     levels(&powers);
     text(b"\nforces:");
     levels(&forces);
+    text(b"\ntimes:");
+    levels(&times);
     text(b"\n");
 }
 
@@ -218,7 +222,7 @@ fn write() {
     let forces = [200u16, 220, 240, 260];
     let mut out = [9u8; 19];
     text(b"write:");
-    match trial_writer::write(2, 7, 5, &powers, &forces, b"A", &mut out) {
+    match trial_writer::write(1, 2, 7, 5, 0, &powers, &forces, &[], b"A", &mut out) {
         Written::Length(size) => number(size as u64),
         Written::Refused(refusal) => refused(refusal),
     }

@@ -1,2 +1,3 @@
 pub mod Demanded
 pub mod Trials
+pub mod Triples

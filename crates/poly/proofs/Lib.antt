@@ -8,6 +8,7 @@ pub mod Divisor
 pub mod Primes
 pub mod Binary
 pub mod Ranges
+pub mod Several
 pub mod Shifts
 pub mod Stores
 pub mod Examples

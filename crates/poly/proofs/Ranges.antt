@@ -68,6 +68,10 @@ has-degree {n} {a} e =
 odd : (a : ℕ) → eqb (a % 2) 0 ≡ false → a % 2 ≡ 1
 odd a e = let ne = eqb-false (a % 2) 0 e in omega arith
 
+pub passed-code : (n code : ℕ) → NoneApplies (codeCauses n code) → HasDegree 2 n code × (code % 2 ≡ 1)
+unfolding codeCauses
+passed-code n code (degree, (constant, rest)) = (has-degree degree, odd code constant)
+
 pub record Passed (n f g : ℕ) : Type 0 where
   pub degree-f : HasDegree 2 n f
   pub odd-f : f % 2 ≡ 1
@@ -82,10 +86,15 @@ passed-codes n f g more (df, (of, (dg, (og, rest)))) =
 not-even : (a : ℕ) → a % 2 ≡ 1 → eqb (a % 2) 0 ≡ false
 not-even a e = ne-eqb (a % 2) 0 (λ z. omega arith)
 
+pub code-passes : (n code : ℕ) (more : List Cause) → HasDegree 2 n code → code % 2 ≡ 1 → NoneApplies more
+    → NoneApplies (codeCauses n code ++ more)
+unfolding codeCauses
+code-passes n code more degree constant rest = (on-degree degree, (not-even code constant, rest))
+
 pub codes-pass : (n f g : ℕ) (more : List Cause) → Passed n f g → NoneApplies more → NoneApplies (codeCauses n f ++ codeCauses n g ++ more)
 unfolding codeCauses
 codes-pass n f g more p rest =
-    (on-degree (p .degree-f), (not-even f (p .odd-f), (on-degree (p .degree-g), (not-even g (p .odd-g), rest))))
+    code-passes n f (codeCauses n g ++ more) (p .degree-f) (p .odd-f) (code-passes n g more (p .degree-g) (p .odd-g) rest)
 
 -- ---- a reply that the degree alone refuses
 pub count-served : (n value : ℕ) {x : ℕ} → served (x ∷ []) ≡ unless (degreeCause n ∷ []) (served (value ∷ []))

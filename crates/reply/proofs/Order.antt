@@ -31,6 +31,19 @@ pub none-refuses : (causes : List Cause) (reply : Reply) → NoneApplies causes 
 none-refuses [] reply t = refl
 none-refuses ((applies gives k) ∷ causes) reply (e, t) = rw e (none-refuses causes reply t)
 
+-- of two lists of causes
+pub clear-append : (these those : List Cause) → NoneApplies these → NoneApplies those → NoneApplies (these ++ those)
+clear-append [] those a b = b
+clear-append ((applies gives number) ∷ these) those a b = (a .0, clear-append these those (a .1) b)
+
+pub clear-left : (these those : List Cause) → NoneApplies (these ++ those) → NoneApplies these
+clear-left [] those c = tt
+clear-left ((applies gives number) ∷ these) those c = (c .0, clear-left these those (c .1))
+
+pub clear-right : (these those : List Cause) → NoneApplies (these ++ those) → NoneApplies those
+clear-right [] those c = c
+clear-right ((applies gives number) ∷ these) those c = clear-right these those (c .1)
+
 -- a refusal leaves lent memory as it was
 pub kept {ℓ} : {A : Type ℓ} {k : ℕ} {reply : Reply} → refused k ≡ reply → (new old : A) → old ≡ after reply new old
 kept e new old = ap (λ (r : Reply). after r new old) e

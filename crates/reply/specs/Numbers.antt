@@ -23,13 +23,13 @@ numberOf SiteRange = 5
 numberOf CodeDegree = 6
 -- constant term 0
 numberOf ConstantTerm = 7
--- common factor
+-- common factor, of two codes or of any two of three (document 02, request e)
 numberOf CommonFactor = 8
 -- file ends inside a number or name, or before a field
 numberOf FileEnds = 9
 -- number longer than five bytes, above 4294967295, or with a needless last byte 0
 numberOf NumberForm = 10
--- version not 1
+-- version neither 1 nor 2 (document 02, request e)
 numberOf Version = 11
 -- degree outside 2 to 6, of a trial file, a sheet or the list of triples (document 02, request f)
 numberOf SheetDegree = 12

@@ -17,6 +17,7 @@ use Rattle.poly.proofs.Binary.{add-xor}
 use Rattle.poly.specs.Code.{digit, add}
 use Rattle.squares.specs.Symbols.{fromDigits, sumBelow, line, outputCell, symbol}
 use Rattle.squares.specs.Lines.{parity, Moved}
+use Rattle.squares.specs.Doubling.{atSite}
 use Rattle.squares.proofs.Codes
 use Rattle.squares.proofs.Places
 use Rattle.squares.proofs.Middle
@@ -77,11 +78,7 @@ module _ (n row : ℕ) {f col : ℕ} (word : ℕ) (n-lt : n < 32) (f-lt : f < 2 
   unfolding symbol
   symbol-parities = number-equal n (outputCell 2 n f (line 2 n row col)) (parity f word) output-ones
 
--- The symbol at a site given as one number, row * 2^n + col.
-abbrev pub atSite : ℕ → ℕ → ℕ → ℕ
-atSite n f site = symbol 2 n f (site / 2 ^ n) (site % 2 ^ n)
-
--- A line has the 2n bits of that number in reverse.
+-- A line has the 2n bits of a site's number in reverse.
 abbrev LineOf : ℕ → ℕ → ℕ → Type 0
 LineOf n site line = (i : ℕ) → i < n + n → digit 2 line i ≡ digit 2 site (n + n - suc i)
 
@@ -116,7 +113,7 @@ unit-line n m h i l = elim (ℕ-discrete i (n + n - suc m)) [
   | no e ↦ off-power (n + n - suc m) i e ∙ sym (off-power m (n + n - suc i) (λ e′. e (omega arith)))
 ]
 
--- It is linear in that number.
+-- A symbol is linear in the site's number.
 pub site-add : (n : ℕ) {f : ℕ} (a b : ℕ) → f < 2 ^ suc n → atSite n f (add 2 a b) ≡ bitXor (atSite n f a) (atSite n f b)
 site-add n {f} a b f-lt =
     rw (Codes.add-div 2 (le-refl 2) n a b, Codes.add-mod 2 (le-refl 2) n a b)

@@ -8,9 +8,11 @@ pub mod Places
 pub mod Binary
 pub mod Exchanges
 pub mod Runs
+pub mod Patterns
 pub mod Sheets
 pub mod Bytes
 pub mod Agreeing
 pub mod Served
+pub mod Calls
 pub mod Claims
 pub mod Examples

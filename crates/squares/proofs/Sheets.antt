@@ -1,13 +1,13 @@
 -- What a sheet holds: blocks of equal length stand one after the other, rows in the sheet and sites in a row.
 use mathlib.Core.Logic.{_⊎_, inl, inr}
-use mathlib.Core.Path.{_≡_, refl, sym, _∙_}
-use mathlib.Core.List.{List, _++_}
+use mathlib.Core.Path.{_≡_, refl, sym, ap, _∙_}
+use mathlib.Core.List.{List, [], _∷_, _++_, map}
 use Prim.Native.Nat.{ℕ, zero, suc, _+_, _*_, _^_, _<_}
 use native.Mathlib.Nat
 use native.Mathlib.Nat.{eq-or-lt-of-le, le-of-suc-le-suc}
 use native.Mathlib.Omega.{arith}
 use lib.Arith.{digits-lt}
-use lib.ListN.{length, getD, length-append, List·getD-append}
+use lib.ListN.{length, getD, length-append, length-map, List·getD-append}
 use lib.Pow.{pow-pos, pow-add}
 use lib.Seq.{getD-append-add}
 use Rattle.squares.specs.Squares.{Square}
@@ -30,23 +30,36 @@ module _ (h : ℕ → List ℕ) (w : ℕ) (width : (i : ℕ) → length (h i) �
       go ih (inr less) =
           List·getD-append (eachBelow k h) (h k) 0 (i * w + j) (rw (each-length k) (digits-lt less hj)) ∙ ih less
 
-module _ (N : ℕ) (first second : Square) where
-  row-length : (row : ℕ) → length (rowBytes N first second row) ≡ N * 2
-  row-length row = each-length _ 2 (λ col. refl) N
+-- an element in range, whatever stands for the others
+pub map-at : {A B : Type 0} (h : A → B) (a : A) (b : B) (xs : List A) (k : ℕ) → k < length xs → getD (map h xs) k b ≡ h (getD xs k a)
+map-at h a b [] k l = absurd (omega arith)
+map-at h a b (x ∷ xs) zero l = refl
+map-at h a b (x ∷ xs) (suc k) l = map-at h a b xs k (omega arith)
 
-  sheet-length : length (sheet N first second) ≡ N * (N * 2)
-  unfolding sheet
-  sheet-length = each-length (rowBytes N first second) (N * 2) row-length N
+module _ (N : ℕ) (squares : List Square) where
+  abbrev width : ℕ
+  width = length squares
 
-  pub byte-at : (row col : ℕ) {j : ℕ} → row < N → col < N → j < 2
-      → getD (sheet N first second) (2 * (row * N + col) + j) 0 ≡ getD (siteBytes first second row col) j 0
+  site-length : (row col : ℕ) → length (siteBytes squares row col) ≡ width
+  site-length row col = length-map squares (λ (square : Square). square row col)
+
+  row-length : (row : ℕ) → length (rowBytes N squares row) ≡ N * width
+  row-length row = each-length _ width (λ col. length-map squares _) N
+
+  sheet-length : length (sheet N squares) ≡ N * (N * width)
   unfolding sheet
-  byte-at row col {j} hr hc hj =
-      let regroup : row * (N * 2) ≡ row * N * 2 = sym (Nat.mul-assoc row N 2) in
-      let place : 2 * (row * N + col) + j ≡ row * (N * 2) + (col * 2 + j) = omega arith in
+  sheet-length = each-length (rowBytes N squares) (N * width) row-length N
+
+  pub byte-at : (row col : ℕ) {k : ℕ} → row < N → col < N → k < width
+      → getD (sheet N squares) (width * (row * N + col) + k) 0 ≡ getD (siteBytes squares row col) k 0
+  unfolding sheet
+  byte-at row col {k} hr hc hk =
+      let parts : width * (row * N + col) ≡ row * N * width + col * width = Nat.mul-comm _ _ ∙ Nat.add-mul (row * N) col width in
+      let regroup : row * (N * width) ≡ row * N * width = sym (Nat.mul-assoc row N width) in
+      let place : width * (row * N + col) + k ≡ row * (N * width) + (col * width + k) = omega arith in
       rw place
-      (each-at (rowBytes N first second) (N * 2) row-length (digits-lt hc hj) N row hr
-      ∙ each-at (siteBytes first second row) 2 (λ c. refl) hj N col hc)
+      (each-at (rowBytes N squares) (N * width) row-length (digits-lt hc hk) N row hr
+      ∙ each-at (siteBytes squares row) width (site-length row) hk N col hc)
 
 -- ---- the sheet call
 pub four-pow : (n : ℕ) → 4 ^ n ≡ 2 ^ n * 2 ^ n
@@ -60,8 +73,21 @@ square-is n = let e : 2 * n ≡ n + n = omega arith in rw e (pow-add 2 n n ∙ s
 pub four-pos : (n : ℕ) → 0 < 4 ^ n
 four-pos n = rw (← square-is n) (pow-pos (2 * n))
 
-pub sheetOf-length : (n f g : ℕ) → length (sheetOf n f g) ≡ 2 * 4 ^ n
+pub sheetOf-length : (n : ℕ) (codes : List ℕ) → length (sheetOf n codes) ≡ length codes * 4 ^ n
 unfolding sheetOf
-sheetOf-length n f g =
-    sheet-length (2 ^ n) (symbol 2 n f) (symbol 2 n g)
-    ∙ rw (four-pow n) (sym (Nat.mul-assoc (2 ^ n) (2 ^ n) 2) ∙ Nat.mul-comm (2 ^ n * 2 ^ n) 2)
+sheetOf-length n codes =
+    sheet-length (2 ^ n) (map (symbol 2 n) codes)
+    ∙ rw (length-map codes (symbol 2 n), four-pow n)
+    (sym (Nat.mul-assoc (2 ^ n) (2 ^ n) (length codes)) ∙ Nat.mul-comm (2 ^ n * 2 ^ n) (length codes))
+
+-- byte k of a site is the symbol of code k
+pub symbol-at : (n : ℕ) (codes : List ℕ) (row col : ℕ) {k : ℕ} → row < 2 ^ n → col < 2 ^ n → k < length codes
+    → getD (sheetOf n codes) (length codes * (row * 2 ^ n + col) + k) 0 ≡ symbol 2 n (getD codes k 0) row col
+unfolding sheetOf
+symbol-at n codes row col {k} hr hc hk =
+    let squares : List Square = map (symbol 2 n) codes in
+    let same : length squares ≡ length codes = length-map codes (symbol 2 n) in
+    let inside : k < length squares = rw same hk in
+    rw (← same) (byte-at (2 ^ n) squares row col hr hc inside)
+    ∙ map-at (λ (square : Square). square row col) (symbol 2 n 0) 0 squares k inside
+    ∙ ap (λ (square : Square). square row col) (map-at (symbol 2 n) 0 (symbol 2 n 0) codes k hk)

@@ -1,4 +1,5 @@
--- Document 01's trial file and its neighbours, and for each of the numbers 4 and 6 to 17 an input that gets it: all computed.
+-- Document 01's trial file and its neighbours, a version 2 file, and for each of the numbers 4 and 6 to 17 an input that gets it, where the
+-- versions differ for both: all computed.
 use mathlib.Core.Path.{_≡_, refl}
 use Prim.Native.Nat.{ℕ}
 use mathlib.Core.List.{List, [], _∷_, _++_, map}
@@ -11,15 +12,18 @@ use Rattle.poly.specs.Limits.{outside}
 use Rattle.poly.specs.Causes.{offDegree, codeCauses}
 use Rattle.trial.specs.Parser.{parsed, failed}
 use Rattle.trial.specs.Number.{encodeNumber, parseNumber}
-use Rattle.trial.specs.Trial.{Trial, encodeHead, encodeBody, encode, parseCodes, parseHead, parseText, parseName, parseEnd}
-use Rattle.trial.specs.Trial.{parseBody, parseUnder, parse}
+use Rattle.trial.specs.Trial.{Trial, trialFrom, encodeHead, encodeBody, encode, parseCoprime, parseHead, parseText}
+use Rattle.trial.specs.Trial.{parseName, parseEnd, parseBody, parseUnder, parse}
 use Rattle.trial.specs.Replies.{contentCauses, read, readReply, writeReply}
 use Rattle.trial.specs.Claims.{document01}
+
+abbrev forcesGiven : List ℕ
+forcesGiven = 200 ∷ 220 ∷ 240 ∷ 260 ∷ []
 
 -- Document 01's content, with the degree, the codes, the powers and the name given.
 abbrev content : ℕ → ℕ → ℕ → List ℕ → List ℕ → Trial
 content n f g powers name =
-    record { head = record { degree = n; f = f; g = g }; powers = powers; forces = 200 ∷ 220 ∷ 240 ∷ 260 ∷ []; name = name }
+    record { head = record { version = 1; degree = n; codes = f ∷ g ∷ [] }; lists = powers ∷ forcesGiven ∷ []; name = name }
 
 abbrev rising : List ℕ
 rising = 100 ∷ 110 ∷ 120 ∷ 130 ∷ []
@@ -42,19 +46,39 @@ unfolding encode encodeBody encodeHead encodeNumber
 encoded = refl
 
 decoded : parse (withName (0x01 ∷ 0x41 ∷ [])) ≡ parsed (content 2 7 5 rising (0x41 ∷ [])) []
-unfolding parse parseHead parseCodes parseBody parseName parseText parseEnd parseNumber
+unfolding parse parseHead parseCoprime parseBody parseName parseText parseEnd parseNumber
     outside offDegree codeCauses gcd divide bringDown inverse add scale degree
 decoded = refl
 
--- Under document 01's own rules: its file, two equal powers, powers that fall.
+-- A version 2 file of degree 3 with the codes 9, 11 and 13.
+abbrev firstEight : List ℕ
+firstEight = 0 ∷ 1 ∷ 2 ∷ 3 ∷ 4 ∷ 5 ∷ 6 ∷ 7 ∷ []
+
+abbrev secondEight : List ℕ
+secondEight = 9 ∷ 8 ∷ 11 ∷ 10 ∷ 13 ∷ 12 ∷ 15 ∷ 14 ∷ []
+
+abbrev headBytes2 : List ℕ
+headBytes2 = 0x02 ∷ 0x03 ∷ 0x09 ∷ 0x0B ∷ 0x0D ∷ []
+
+abbrev content2 : ℕ → List ℕ → Trial
+content2 h times = trialFrom 2 3 (9 ∷ 11 ∷ h ∷ []) (firstEight ∷ secondEight ∷ times ∷ []) (0x41 ∷ [])
+
+abbrev withTimes : List ℕ → List ℕ
+withTimes bytes = headBytes2 ++ firstEight ++ secondEight ++ bytes
+
+encoded2 : encode (content2 13 firstEight) ≡ withTimes (firstEight ++ (0x01 ∷ 0x41 ∷ []))
+unfolding encode encodeBody encodeHead encodeNumber
+encoded2 = refl
+
+-- Under document 01's own rules: its file, two equal powers, powers that fall, version 2.
 decoded-before : map (parseUnder document01)
-    (withName (0x01 ∷ 0x41 ∷ []) ∷ (headBytes ++ (0x64 ∷ 0x64 ∷ [])) ∷ (headBytes ++ (0x02 ∷ 0x01 ∷ [])) ∷ [])
-    ≡ parsed (content 2 7 5 rising (0x41 ∷ [])) [] ∷ failed 14 ∷ failed 14 ∷ []
-unfolding parseHead parseCodes parseBody parseName parseText parseEnd parseNumber
+    (withName (0x01 ∷ 0x41 ∷ []) ∷ (headBytes ++ (0x64 ∷ 0x64 ∷ [])) ∷ (headBytes ++ (0x02 ∷ 0x01 ∷ [])) ∷ (0x02 ∷ []) ∷ [])
+    ≡ parsed (content 2 7 5 rising (0x41 ∷ [])) [] ∷ failed 14 ∷ failed 14 ∷ failed 11 ∷ []
+unfolding parseHead parseCoprime parseBody parseName parseText parseEnd parseNumber
     outside offDegree codeCauses gcd divide bringDown inverse add scale degree
 decoded-before = refl
 
--- A file, the room for each list of levels, and the reader's reply.
+-- A file, the room for the third list of levels, and the reader's reply.
 record Reading : Type 0 where
   file : List ℕ
   room : ℕ
@@ -65,10 +89,12 @@ reading bytes answer = record { file = bytes; room = 64; reply = answer }
 
 abbrev readings : List Reading
 readings =
-    reading (withName (0x01 ∷ 0x41 ∷ [])) (served (2 ∷ 7 ∷ 5 ∷ 18 ∷ 1 ∷ []))
-    ∷ reading (withName (0x28 ∷ replicate 40 0x41)) (served (2 ∷ 7 ∷ 5 ∷ 18 ∷ 40 ∷ []))
-    ∷ reading (headBytes ++ (0x03 ∷ 0x01 ∷ 0x04 ∷ 0x02 ∷ 0x04 ∷ 0x03 ∷ 0x02 ∷ 0x00 ∷ 0x00 ∷ [])) (served (2 ∷ 7 ∷ 5 ∷ 13 ∷ 0 ∷ []))
+    reading (withName (0x01 ∷ 0x41 ∷ [])) (served (2 ∷ 7 ∷ 5 ∷ 18 ∷ 1 ∷ 1 ∷ []))
+    ∷ reading (withName (0x28 ∷ replicate 40 0x41)) (served (2 ∷ 7 ∷ 5 ∷ 18 ∷ 40 ∷ 1 ∷ []))
+    ∷ reading (headBytes ++ (0x03 ∷ 0x01 ∷ 0x04 ∷ 0x02 ∷ 0x04 ∷ 0x03 ∷ 0x02 ∷ 0x00 ∷ 0x00 ∷ [])) (served (2 ∷ 7 ∷ 5 ∷ 13 ∷ 0 ∷ 1 ∷ []))
+    ∷ reading (withTimes (firstEight ++ (0x01 ∷ 0x41 ∷ []))) (served (3 ∷ 9 ∷ 11 ∷ 30 ∷ 1 ∷ 2 ∷ 13 ∷ []))
     ∷ record { file = []; room = 63; reply = refused 4 }
+    ∷ record { file = withName (0x01 ∷ 0x41 ∷ []); room = 63; reply = refused 4 }
     ∷ reading (0x01 ∷ 0x02 ∷ 0x08 ∷ []) (refused 6)
     ∷ reading (0x01 ∷ 0x02 ∷ 0x06 ∷ []) (refused 7)
     ∷ reading (0x01 ∷ 0x02 ∷ 0x07 ∷ 0x03 ∷ []) (refused 6)
@@ -81,7 +107,18 @@ readings =
     ∷ reading (replicate 4 0x80 ++ (0x10 ∷ [])) (refused 10)
     ∷ reading (0x82 ∷ 0x00 ∷ []) (refused 10)
     ∷ reading (replicate 4 0xFF ++ (0x0F ∷ [])) (refused 11)
-    ∷ reading (0x02 ∷ []) (refused 11)
+    ∷ reading (0x00 ∷ []) (refused 11)
+    ∷ reading (0x03 ∷ []) (refused 11)
+    ∷ reading (0x02 ∷ []) (refused 9)
+    ∷ reading (0x02 ∷ 0x03 ∷ 0x09 ∷ 0x09 ∷ []) (refused 9)
+    ∷ reading (0x02 ∷ 0x03 ∷ 0x09 ∷ 0x09 ∷ 0x03 ∷ []) (refused 6)
+    ∷ reading (0x02 ∷ 0x03 ∷ 0x09 ∷ 0x09 ∷ 0x08 ∷ []) (refused 7)
+    ∷ reading (0x02 ∷ 0x03 ∷ 0x09 ∷ 0x09 ∷ 0x0B ∷ []) (refused 8)
+    ∷ reading (0x02 ∷ 0x03 ∷ 0x09 ∷ 0x0B ∷ 0x09 ∷ []) (refused 8)
+    ∷ reading (0x02 ∷ 0x03 ∷ 0x0B ∷ 0x09 ∷ 0x09 ∷ []) (refused 8)
+    ∷ reading (withTimes (0x10 ∷ 0x80 ∷ 0x80 ∷ 0x04 ∷ [])) (refused 13)
+    ∷ reading (withTimes (0x10 ∷ [])) (refused 9)
+    ∷ reading (withTimes (0x10 ∷ 0x10 ∷ [])) (refused 14)
     ∷ reading (0x01 ∷ 0x01 ∷ []) (refused 12)
     ∷ reading (0x01 ∷ 0x07 ∷ []) (refused 12)
     ∷ reading (headBytes ++ (0x80 ∷ 0x80 ∷ 0x04 ∷ [])) (refused 13)
@@ -95,8 +132,8 @@ readings =
     ∷ reading (withName (0x01 ∷ 0x41 ∷ 0x00 ∷ [])) (refused 17)
     ∷ []
 
-reads : map (λ c. readReply (length (c .file)) (read (c .room) 64 (c .file))) readings ≡ map (λ c. c .reply) readings
-unfolding read parse parseHead parseCodes parseBody parseName parseText parseEnd parseNumber
+reads : map (λ c. readReply (length (c .file)) (read (64 ∷ 64 ∷ c .room ∷ []) (c .file))) readings ≡ map (λ c. c .reply) readings
+unfolding read parse parseHead parseCoprime parseBody parseName parseText parseEnd parseNumber
     outside offDegree codeCauses gcd divide bringDown inverse add scale degree
 reads = refl
 
@@ -106,8 +143,11 @@ record Writing : Type 0 where
   room : ℕ
   reply : Reply
 
+abbrev passing : Trial → ℕ → Reply → Writing
+passing t space answer = record { trial = t; room = space; reply = answer }
+
 abbrev writing : ℕ → ℕ → ℕ → List ℕ → List ℕ → Reply → Writing
-writing n f g levels name answer = record { trial = content n f g levels name; room = 19; reply = answer }
+writing n f g levels name answer = passing (content n f g levels name) 19 answer
 
 abbrev writings : List Writing
 writings =
@@ -126,6 +166,18 @@ writings =
     ∷ writing 2 7 5 rising (replicate 41 0x41) (refused 15)
     ∷ writing 2 7 5 rising (0x7F ∷ []) (refused 16)
     ∷ writing 2 7 5 rising (0x41 ∷ 0x42 ∷ []) (refused 4)
+    ∷ passing (trialFrom 1 2 (7 ∷ 5 ∷ 0 ∷ []) (rising ∷ forcesGiven ∷ [] ∷ []) (0x41 ∷ [])) 19 (served (19 ∷ []))
+    ∷ passing (trialFrom 0 2 (7 ∷ 5 ∷ 0 ∷ []) (rising ∷ forcesGiven ∷ [] ∷ []) (0x41 ∷ [])) 19 (refused 11)
+    ∷ passing (trialFrom 3 3 (9 ∷ 11 ∷ 13 ∷ []) (firstEight ∷ secondEight ∷ firstEight ∷ []) []) 31 (refused 11)
+    ∷ passing (content2 13 firstEight) 31 (served (31 ∷ []))
+    ∷ passing (content2 13 firstEight) 30 (refused 4)
+    ∷ passing (content2 3 firstEight) 31 (refused 6)
+    ∷ passing (content2 8 firstEight) 31 (refused 7)
+    ∷ passing (trialFrom 2 3 (9 ∷ 9 ∷ 8 ∷ []) (firstEight ∷ secondEight ∷ firstEight ∷ []) []) 31 (refused 7)
+    ∷ passing (content2 9 firstEight) 31 (refused 8)
+    ∷ passing (content2 11 firstEight) 31 (refused 8)
+    ∷ passing (content2 13 (0 ∷ firstEight)) 31 (refused 4)
+    ∷ passing (content2 13 (replicate 8 0)) 31 (refused 14)
     ∷ []
 
 writes : map (λ c. writeReply (c .trial) (c .room)) writings ≡ map (λ c. c .reply) writings

@@ -10,3 +10,4 @@ pub mod Trial
 pub mod Room
 pub mod Codec
 pub mod Still
+pub mod Unchanged

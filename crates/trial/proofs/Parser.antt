@@ -12,6 +12,11 @@ use Rattle.trial.specs.Parser.{Parsed, parsed, failed, Parser, pure, res
 pub failed-not-parsed : {A : Type 0} {number : ℕ} {value : A} {rest : List ℕ} → failed number ≡ parsed value rest → ⊥
 failed-not-parsed e = let z : _≡_ {A = ℕ} 0 1 = cc in omega arith
 
+-- What a parser answered, by cases.
+pub either : {A C : Type 0} (p : Parsed A) → ((a : A) (rest : List ℕ) → p ≡ parsed a rest → C) → ((k : ℕ) → p ≡ failed k → C) → C
+either (parsed a rest) read refusal = read a rest refl
+either (failed k) read refusal = refusal k refl
+
 -- A parser and then a next one parse: what the first reads, the rest, and what the next makes of them, go on to `go`.
 pub with-parsed : {A B C : Type 0} (first : Parser A) (next : A → Parser B) (bytes : List ℕ) {value : B} {end : List ℕ}
     → (first >>= next) bytes ≡ parsed value end
@@ -22,19 +27,6 @@ with-parsed {A} {B} {C} first next bytes {value} {end} e go = cases (first bytes
     cases : (p : Parsed A) → first bytes ≡ p → resume p next ≡ parsed value end → C
     cases (parsed a rest) e e′ = go a rest e e′
     cases (failed number) e e′ = absurd (failed-not-parsed e′)
-
--- No cause of two lists applies.
-pub clear-append : (these those : List Cause) → NoneApplies these → NoneApplies those → NoneApplies (these ++ those)
-clear-append [] those a b = b
-clear-append ((applies gives number) ∷ these) those a b = (a .0, clear-append these those (a .1) b)
-
-pub clear-left : (these those : List Cause) → NoneApplies (these ++ those) → NoneApplies these
-clear-left [] those c = tt
-clear-left ((applies gives number) ∷ these) those c = (c .0, clear-left these those (c .1))
-
-pub clear-right : (these those : List Cause) → NoneApplies (these ++ those) → NoneApplies those
-clear-right [] those c = c
-clear-right ((applies gives number) ∷ these) those c = clear-right these those (c .1)
 
 pub barring-clear : {A : Type 0} (causes : List Cause) (parser : Parser A) (bytes : List ℕ) → NoneApplies causes
     → barring causes parser bytes ≡ parser bytes
@@ -75,7 +67,7 @@ barring-append [] those parser bytes = refl
 barring-append ((true gives number) ∷ these) those parser bytes = refl
 barring-append ((false gives number) ∷ these) those parser bytes = barring-append these those parser bytes
 
-resume-barring : {A B : Type 0} (causes : List Cause) (value : A) (next : A → Parser B) (bytes : List ℕ)
+pub resume-barring : {A B : Type 0} (causes : List Cause) (value : A) (next : A → Parser B) (bytes : List ℕ)
     → resume (barring causes (pure value) bytes) next ≡ barring causes (next value) bytes
 resume-barring [] value next bytes = refl
 resume-barring ((true gives number) ∷ causes) value next bytes = refl

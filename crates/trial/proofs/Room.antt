@@ -1,19 +1,23 @@
--- The bytes of a file are at most 429: 4 of the head, since its numbers are below 128; 3 of each of the levels, which are at most 2 * 64;
--- 1 of the name's length, and 40 of the name.
-use Prim.Native.Nat.{ℕ, suc, _*_, _^_, _≤_}
+-- The bytes of a file of version v are at most 43 + 193 * (v + 1): 2 of version and degree and 1 of each of the v + 1 codes, since these
+-- numbers are below 128; 3 of each of the levels, of which each of the v + 1 lists has at most 64; 1 of the name's length, and 40 of the
+-- name.
+use mathlib.Core.Logic.{inl, inr}
+use mathlib.Core.Path.{_≡_, refl, ap}
+use Prim.Native.Nat.{ℕ, suc, _+_, _*_, _^_, _≤_}
 use mathlib.Core.List.{List, [], _∷_}
 use native.Mathlib.Omega.{arith}
 use lib.ListN.{length, length-append}
-use lib.Pow.{pow-mono}
-use Rattle.reply.proofs.Order.{NoneApplies}
+use Rattle.reply.proofs.Order.{NoneApplies, clear-left, clear-right}
+use Rattle.poly.specs.Causes.{codeCauses, ownCauses, commonFactors}
 use Rattle.poly.proofs.Ranges.{within}
 use Rattle.trial.specs.Number.{AllBelow, encodeNumber, encodeNumbers}
-use Rattle.trial.specs.Trial.{Trial, version, encodeHead, encodeBody, encode}
+use Rattle.trial.specs.Trial.{Trial, encodeHead, encodeLists, encodeBody, encode}
 use Rattle.trial.specs.Replies.{contentCauses}
-use Rattle.trial.specs.Claims.{fileRoom}
+use Rattle.trial.specs.Claims.{LowLevels, fileRoom}
 use Rattle.trial.proofs.Number.{encode-small, encode-most}
 use Rattle.trial.proofs.Order.{order-few}
-use Rattle.trial.proofs.Content.{sound}
+use Rattle.trial.proofs.Content.{FullLists, Formed, sound, version-is}
+use Rattle.trial.proofs.Trial.{code-small}
 
 levels-room : (levels : List ℕ) → AllBelow 65536 levels → length (encodeNumbers levels) ≤ 3 * length levels
 levels-room [] below = omega arith
@@ -22,22 +26,44 @@ levels-room (level ∷ levels) below =
     let others = levels-room levels (λ i. below (suc i)) in
     rw (length-append (encodeNumber level) (encodeNumbers levels)) (omega arith)
 
-pub encode-room : (t : Trial) → AllBelow 65536 (t .powers) → AllBelow 65536 (t .forces) → NoneApplies (contentCauses t)
-    → length (encode t) ≤ fileRoom
+lists-room : (order : ℕ) (lists : List (List ℕ)) → order ≤ 64 → LowLevels lists → FullLists order lists
+    → length (encodeLists lists) ≤ 192 * length lists
+lists-room order [] few low whole = omega arith
+lists-room order (levels ∷ lists) few low whole =
+    let one = levels-room levels (low 0) in
+    let others = lists-room order lists few (λ k. low (suc k)) (λ k h. whole (suc k) (omega arith)) in
+    rw (length-append (encodeNumbers levels) (encodeLists lists)) (omega (arith, whole 0 (omega arith) .long))
+
+codes-room : (n : ℕ) (codes : List ℕ) → n ≤ 6 → NoneApplies (ownCauses n codes) → length (encodeNumbers codes) ≡ length codes
+codes-room n [] low clear = refl
+codes-room n (code ∷ codes) low clear =
+    let small = code-small n code low (clear-left (codeCauses n code) (ownCauses n codes) clear) in
+    rw (encode-small code small) (ap suc (codes-room n codes low (clear-right (codeCauses n code) (ownCauses n codes) clear)))
+
+most : (t : Trial) → Formed t → LowLevels (t .lists) → NoneApplies (contentCauses t)
+    → length (encode t) ≤ 43 + 193 * suc (t .head .version)
 unfolding encode encodeBody encodeHead
-encode-room t low-powers low-forces clear =
+most t formed low clear =
     let s = sound t clear in
+    let v : ℕ = t .head .version in
     let n : ℕ = t .head .degree in
+    let new : v ≤ 2 = within 1 2 (s .version) .1 in
     let high : n ≤ 6 = within 2 6 (s .degree) .1 in
-    let code : 2 ^ suc n ≤ 2 ^ 7 = pow-mono {i = suc n} {j = 7} (omega arith) in
-    let powers = levels-room (t .powers) low-powers in
-    let forces = levels-room (t .forces) low-forces in
+    let own = clear-left (ownCauses n (t .head .codes)) (commonFactors (t .head .codes)) (s .codes) in
+    let lists = lists-room (2 ^ n) (t .lists) (order-few n (s .degree)) low (s .lists) in
     simp length-append
     (rw (
-      encode-small version (omega arith),
+      encode-small v (omega arith),
       encode-small n (omega arith),
-      encode-small (t .head .f) (omega (arith, s .codes .degree-f .high)),
-      encode-small (t .head .g) (omega (arith, s .codes .degree-g .high)),
+      codes-room n (t .head .codes) high own,
       encode-small (length (t .name)) (omega (arith, s .name-short)),
     )
-    (omega (arith, order-few n (s .degree), s .powers-long, s .forces-long, s .name-short)))
+    (omega (arith, formed .codes, formed .lists, s .name-short)))
+
+pub encode-room : (t : Trial) → Formed t → LowLevels (t .lists) → NoneApplies (contentCauses t)
+    → length (encode t) ≤ fileRoom (t .head .version)
+encode-room t formed low clear =
+    elim (version-is (t .head .version) (sound t clear .version)) [
+      | inl v ↦ rw v (rw v at (most t formed low clear))
+      | inr v ↦ rw v (rw v at (most t formed low clear))
+    ]

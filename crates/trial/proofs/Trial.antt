@@ -1,75 +1,116 @@
 -- The two laws of the codec over whole files: what the writer accepts is read back from its encoding, and a file that is accepted is the
--- encoding of its content, which the writer accepts. Field by field, each handing the rest to the next.
-use mathlib.Core.Path.{_≡_, refl, sym, _∙_}
-use Prim.Native.Nat.{ℕ, suc, _^_, _≤_, _<_}
-use mathlib.Core.Bool.{false, not}
+-- encoding of its content, which the writer accepts. Field by field, each handing the rest to the next; code by code and list by list, so
+-- that it does not matter how many the version has.
+use mathlib.Core.Path.{_≡_, refl, sym, ap, _∙_}
+use Prim.Native.Nat.{ℕ, zero, suc, _^_, _≤_, _<_}
+use mathlib.Core.Bool.{false}
 use mathlib.Core.List.{List, [], _∷_, _++_, append-assoc, append-nil}
 use native.Mathlib.Omega.{arith}
 use lib.ListN.{length, take, drop, take-append-drop}
 use lib.Seq.{take-length, drop-length, length-take-le}
 use lib.Pow.{pow-mono}
-use lib.Dec.{ltb, leb, eqb}
-use borrow.Author.Tests.{le-ltb, ltb-false, leb-false, eqb-true, eq-eqb, not-false}
-use Rattle.levels.specs.Levels.{repeats}
+use lib.Dec.{ltb}
+use borrow.Author.Tests.{le-ltb, ltb-false}
 use Rattle.reply.specs.Reply.{_gives_}
-use Rattle.reply.proofs.Order.{NoneApplies}
-use Rattle.poly.specs.Causes.{offDegree, codeCauses}
-use Rattle.poly.proofs.Ranges.{within, neither}
-use Rattle.trial.specs.Parser.{parsed, pure, _>>=_}
+use Rattle.reply.proofs.Order.{NoneApplies, clear-append, clear-left, clear-right}
+use Rattle.poly.specs.Causes.{codeCauses, ownCauses, commonFactors}
+use Rattle.poly.proofs.Ranges.{within, passed-code}
+use Rattle.trial.specs.Parser.{parsed, pure, _>>=_, checked}
 use Rattle.trial.specs.Number.{AllBelow, encodeNumber, encodeNumbers}
 use Rattle.trial.specs.Rules.{today}
 use Rattle.trial.specs.Levels.{parseLevels}
-use Rattle.trial.specs.Trial.{Head, Trial, version, encodeHead, encodeBody, encode, versionCauses, degreeCauses, pairCauses}
-use Rattle.trial.specs.Trial.{headCauses, sizeCauses, textCauses, anyUnprintable, parseCodes, parseHead, parseText, parseName}
-use Rattle.trial.specs.Trial.{parseEnd, parseBody, parse}
-use Rattle.trial.specs.Replies.{nameCauses, bodyCauses, contentCauses}
-use Rattle.trial.proofs.Parser.{clear-append, barred, with-parsed}
+use Rattle.trial.specs.Trial.{Head, Trial, encodeHead, encodeLists, encodeBody, encode, versionCauses, degreeCauses, headCauses}
+use Rattle.trial.specs.Trial.{sizeCauses, textCauses, anyUnprintable, parseCodes, parseCoprime, parseHead, parseText, parseName}
+use Rattle.trial.specs.Trial.{parseEnd, parseLists, parseBody, parse}
+use Rattle.trial.specs.Replies.{listCauses, nameCauses, bodyCauses, contentCauses}
+use Rattle.trial.specs.Claims.{LowLevels}
+use Rattle.trial.proofs.Parser.{barred, with-parsed, checked-parsed, parsed-checked}
 use Rattle.trial.proofs.Field.{field-back, below-rest, with-field}
 use Rattle.trial.proofs.Levels.{levels-back, levels-same}
-use Rattle.trial.proofs.Content.{sound}
+use Rattle.trial.proofs.Content.{FullList, FullLists, lists-clear, Formed, sound}
 
--- A code of degree n, 6 at most, fits a number.
-code-fits : (n code : ℕ) → n ≤ 6 → NoneApplies (codeCauses n code) → code ≤ 4294967295
-unfolding codeCauses offDegree
-code-fits n code h clear =
-    let off = neither (ltb code (2 ^ n)) (leb (2 ^ suc n) code) (clear .0) in
-    let below : code < 2 ^ suc n = leb-false (2 ^ suc n) code (off .1) in
-    omega (arith, below, pow-mono {i = suc n} {j = 7} (omega arith))
+-- A code of degree n, 6 at most, has seven bits.
+pub code-small : (n code : ℕ) → n ≤ 6 → NoneApplies (codeCauses n code) → code < 128
+code-small n code h clear = omega (arith, passed-code n code clear .0 .high, pow-mono {i = suc n} {j = 7} (omega arith))
 
-head-back : (head : Head) (rest : List ℕ) → NoneApplies (headCauses head) → parseHead (encodeHead head ++ rest) ≡ parsed head rest
-unfolding encodeHead parseHead parseCodes codeCauses
-head-back head rest clear =
+codes-back : (n : ℕ) (codes rest : List ℕ) → n ≤ 6 → NoneApplies (ownCauses n codes)
+    → parseCodes n (length codes) (encodeNumbers codes ++ rest) ≡ parsed codes rest
+codes-back n [] rest low clear = refl
+codes-back n (code ∷ codes) rest low clear =
+    let this = clear-left (codeCauses n code) (ownCauses n codes) clear in
+    let small = code-small n code low this in
+    rw (
+      append-assoc,
+      field-back (codeCauses n) code (encodeNumbers codes ++ rest) (omega arith) this,
+      codes-back n codes rest low (clear-right (codeCauses n code) (ownCauses n codes) clear),
+    )
+
+pub head-back : (head : Head) (rest : List ℕ) → length (head .codes) ≡ suc (head .version) → NoneApplies (headCauses today head)
+    → parseHead today (encodeHead head ++ rest) ≡ parsed head rest
+unfolding encodeHead parseHead parseCoprime
+head-back head rest many clear =
+    let v : ℕ = head .version in
     let n : ℕ = head .degree in
-    let f : ℕ = head .f in
-    let g : ℕ = head .g in
-    let low : n ≤ 6 = within 2 6 (clear .0) .1 in
-    let cf : NoneApplies (codeCauses n f) = (clear .1 .0, (clear .1 .1 .0, tt)) in
-    let cg : NoneApplies (pairCauses n f g) = clear .1 .1 .1 in
-    let g-fits : g ≤ 4294967295 = code-fits n g low (cg .0, (cg .1 .0, tt)) in
+    let codes : List ℕ = head .codes in
+    let new : v ≤ 2 = within 1 2 (clear .0) .1 in
+    let low : n ≤ 6 = within 2 6 (clear .1 .0) .1 in
+    let own = clear-left (ownCauses n codes) (commonFactors codes) (clear .1 .1) in
+    let coprime = clear-right (ownCauses n codes) (commonFactors codes) (clear .1 .1) in
+    let back = rw many at (codes-back n codes rest low own) in
     simp append-assoc
     (rw (
-      field-back versionCauses version (encodeNumber n ++ (encodeNumber f ++ (encodeNumber g ++ rest))) (omega arith) (refl, tt),
-      field-back degreeCauses n (encodeNumber f ++ (encodeNumber g ++ rest)) (omega arith) (clear .0, tt),
-      field-back (codeCauses n) f (encodeNumber g ++ rest) (code-fits n f low cf) cf,
-      field-back (pairCauses n f) g rest g-fits cg,
+      field-back (versionCauses today) v (encodeNumber n ++ (encodeNumbers codes ++ rest)) (omega arith) (clear .0, tt),
+      field-back degreeCauses n (encodeNumbers codes ++ rest) (omega arith) (clear .1 .0, tt),
+      parsed-checked (parseCodes n (suc v)) commonFactors (encodeNumbers codes ++ rest) back coprime,
     ))
 
+-- So many codes were read.
+record CodesRead (n count : ℕ) (bytes codes rest : List ℕ) : Type 0 where
+  many : length codes ≡ count
+  clear : NoneApplies (ownCauses n codes)
+  same : encodeNumbers codes ++ rest ≡ bytes
+
+codes-same : (n count : ℕ) (bytes : List ℕ) {codes rest : List ℕ} → AllBelow 256 bytes → parseCodes n count bytes ≡ parsed codes rest
+    → CodesRead n count bytes codes rest
+codes-same n zero bytes {codes} {rest} below e =
+    let none : codes ≡ [] = cc in
+    let all : rest ≡ bytes = cc in
+    rw (none, all) (record { many = refl; clear = tt; same = refl })
+codes-same n (suc count) bytes {codes} {rest} below e =
+    with-field (codeCauses n) _ bytes below e λ code r₁ c s b e₁.
+    with-parsed (parseCodes n count) _ r₁ e₁ λ others r₂ o e₂.
+    let t = codes-same n count r₁ b o in
+    let codes-are : codes ≡ code ∷ others = cc in
+    let rest-is : rest ≡ r₂ = cc in
+    rw (codes-are, rest-is)
+    (record {
+      many = ap suc (t .many);
+      clear = clear-append (codeCauses n code) (ownCauses n others) c (t .clear);
+      same = rw (append-assoc, t .same) s;
+    })
+
 record HeadRead (bytes : List ℕ) (head : Head) (rest : List ℕ) : Type 0 where
-  clear : NoneApplies (headCauses head)
+  many : length (head .codes) ≡ suc (head .version)
+  clear : NoneApplies (headCauses today head)
   same : encodeHead head ++ rest ≡ bytes
 
-head-same : (bytes : List ℕ) {head : Head} {rest : List ℕ} → AllBelow 256 bytes → parseHead bytes ≡ parsed head rest
+head-same : (bytes : List ℕ) {head : Head} {rest : List ℕ} → AllBelow 256 bytes → parseHead today bytes ≡ parsed head rest
     → HeadRead bytes head rest
-unfolding encodeHead parseHead parseCodes codeCauses
+unfolding encodeHead parseHead parseCoprime
 head-same bytes {head} {rest} below e =
-    with-field versionCauses _ bytes below e λ v r₁ cv sv b₁ e₁.
+    with-field (versionCauses today) _ bytes below e λ v r₁ cv sv b₁ e₁.
     with-field degreeCauses _ r₁ b₁ e₁ λ n r₂ cn sn b₂ e₂.
-    with-field (codeCauses n) _ r₂ b₂ e₂ λ f r₃ cf sf b₃ e₃.
-    with-field (pairCauses n f) _ r₃ b₃ e₃ λ g r₄ cg sg b₄ e₄.
-    let v-is : v ≡ version = eqb-true v version (not-false (eqb v version) (cv .0)) in
-    let head-is : head ≡ record { degree = n; f = f; g = g } = cc in
-    let rest-is : rest ≡ r₄ = cc in
-    rw (head-is, rest-is) (record { clear = (cn .0, (cf .0, (cf .1 .0, cg))); same = simp append-assoc (rw (sg, sf, sn) (rw v-is at sv)) })
+    with-parsed (checked (parseCodes n (suc v)) commonFactors) _ r₂ e₂ λ codes r₃ ec e₃.
+    let c = checked-parsed (parseCodes n (suc v)) commonFactors r₂ ec in
+    let t = codes-same n (suc v) r₂ b₂ (c .1) in
+    let head-is : head ≡ record { version = v; degree = n; codes = codes } = cc in
+    let rest-is : rest ≡ r₃ = cc in
+    rw (head-is, rest-is)
+    (record {
+      many = t .many;
+      clear = (cv .0, (cn .0, clear-append (ownCauses n codes) (commonFactors codes) (t .clear) (c .0)));
+      same = simp append-assoc (rw (t .same, sn) sv);
+    })
 
 text-back : (name : List ℕ) → anyUnprintable name ≡ false → parseText (length name) name ≡ parsed name []
 unfolding parseText
@@ -105,70 +146,90 @@ last-same bytes {name} {rest} below e =
     let all : take size behind ≡ behind = sym (append-nil (take size behind)) ∙ (rw nothing at (take-append-drop size behind)) in
     rw name-is (record { clear = (rw whole (c .0), (t .0 .1 .0, tt)); same = rw (whole, all) s })
 
--- A list of levels, of the length asked, is read back.
-list-back : (count : ℕ) (levels rest : List ℕ) → length levels ≡ count → AllBelow 65536 levels → repeats levels ≡ false
-    → parseLevels today count [] (encodeNumbers levels ++ rest) ≡ parsed levels rest
-list-back count levels rest long low differ = rw long at (levels-back today levels [] rest low differ)
+-- Lists of levels, of the length asked, are read back.
+lists-back : (order : ℕ) (lists : List (List ℕ)) (rest : List ℕ) → LowLevels lists → FullLists order lists
+    → parseLists today order (length lists) (encodeLists lists ++ rest) ≡ parsed lists rest
+lists-back order [] rest low whole = refl
+lists-back order (levels ∷ lists) rest low whole =
+    let this = whole 0 (omega arith) in
+    let first = rw (this .long) at (levels-back today levels [] (encodeLists lists ++ rest) (low 0) (this .differ)) in
+    rw (append-assoc, first, lists-back order lists rest (λ k. low (suc k)) (λ k h. whole (suc k) (omega arith)))
 
 -- What the writer accepts is read back.
-pub trial-back : (t : Trial) → AllBelow 65536 (t .powers) → AllBelow 65536 (t .forces) → NoneApplies (contentCauses t)
-    → parse (encode t) ≡ parsed t []
+pub trial-back : (t : Trial) → Formed t → LowLevels (t .lists) → NoneApplies (contentCauses t) → parse (encode t) ≡ parsed t []
 unfolding contentCauses encode encodeBody parse parseBody
-trial-back t low-powers low-forces clear =
+trial-back t formed low clear =
     let order : ℕ = 2 ^ t .head .degree in
     let name-bytes : List ℕ = encodeNumber (length (t .name)) ++ t .name in
     let s = sound t clear in
-    let forces-bytes : List ℕ = encodeNumbers (t .forces) ++ name-bytes in
+    let lists = rw (formed .lists) at (lists-back order (t .lists) name-bytes low (s .lists)) in
     simp append-assoc
     (rw (
-      head-back (t .head) (encodeNumbers (t .powers) ++ forces-bytes) (s .head),
-      list-back order (t .powers) forces-bytes (s .powers-long) low-powers (s .powers-differ),
-      list-back order (t .forces) name-bytes (s .forces-long) low-forces (s .forces-differ),
+      head-back (t .head) (encodeLists (t .lists) ++ name-bytes) (formed .codes) (s .head),
+      lists,
       last-back (t .name) (s .name),
     ))
 
--- A list of levels was read.
-record ListRead (count : ℕ) (bytes levels rest : List ℕ) : Type 0 where
-  size : not (eqb (length levels) count) ≡ false
-  low : AllBelow 65536 levels
-  differ : repeats levels ≡ false
-  same : encodeNumbers levels ++ rest ≡ bytes
+-- So many lists of levels were read.
+record ListsRead (order count : ℕ) (bytes : List ℕ) (lists : List (List ℕ)) (rest : List ℕ) : Type 0 where
+  many : length lists ≡ count
+  low : LowLevels lists
+  whole : FullLists order lists
+  same : encodeLists lists ++ rest ≡ bytes
 
-list-same : (count : ℕ) (bytes : List ℕ) {levels rest : List ℕ} → AllBelow 256 bytes → parseLevels today count [] bytes ≡ parsed levels rest
-    → ListRead count bytes levels rest
-list-same count bytes {levels} {rest} below e =
-    let r = levels-same today count [] bytes below e in
-    rw (← r .whole) (record { size = rw (eq-eqb (length (r .fresh)) count (r .size)); low = r .low; differ = r .allowed; same = r .same })
+lists-same : (order count : ℕ) (bytes : List ℕ) {lists : List (List ℕ)} {rest : List ℕ} → AllBelow 256 bytes
+    → parseLists today order count bytes ≡ parsed lists rest → ListsRead order count bytes lists rest
+lists-same order zero bytes {lists} {rest} below e =
+    let none : lists ≡ [] = cc in
+    let all : rest ≡ bytes = cc in
+    rw (none, all) (record { many = refl; low = λ k i. omega arith; whole = λ k h. absurd (omega arith); same = refl })
+lists-same order (suc count) bytes {lists} {rest} below e =
+    with-parsed (parseLevels today order []) _ bytes e λ levels r₁ l e₁.
+    with-parsed (parseLists today order count) _ r₁ e₁ λ others r₂ o e₂.
+    let f = levels-same today order [] bytes below l in
+    let same : encodeNumbers levels ++ r₁ ≡ bytes = rw (f .whole) at (f .same) in
+    let this : FullList order levels = rw (← f .whole) (record { long = f .size; differ = f .allowed }) in
+    let t = lists-same order count r₁ (below-rest (encodeNumbers levels) r₁ bytes same below) o in
+    let lists-are : lists ≡ levels ∷ others = cc in
+    let rest-is : rest ≡ r₂ = cc in
+    rw (lists-are, rest-is)
+    (record {
+      many = ap suc (t .many);
+      low = elim [ zero ↦ rw (f .whole) at (f .low) | suc k ↦ t .low k ];
+      whole = λ k. elim k [
+        | zero ↦ λ h. this
+        | suc k ↦ λ h. t .whole k (omega arith)
+      ];
+      same = rw (append-assoc, t .same) same;
+    })
 
 -- A file is accepted as the encoding of a content that the writer accepts.
 pub record Accepted (file : List ℕ) (t : Trial) : Type 0 where
-  pub low-powers : AllBelow 65536 (t .powers)
-  pub low-forces : AllBelow 65536 (t .forces)
+  pub formed : Formed t
+  pub low : LowLevels (t .lists)
   pub clear : NoneApplies (contentCauses t)
   pub same : encode t ≡ file
 
 pub trial-same : (file : List ℕ) {t : Trial} {rest : List ℕ} → AllBelow 256 file → parse file ≡ parsed t rest → Accepted file t
 unfolding contentCauses encode encodeBody parse parseBody
 trial-same file {t} {rest} below e =
-    with-parsed parseHead (parseBody today) file e λ head r₁ h e₁.
+    with-parsed (parseHead today) _ file e λ head r₁ h e₁.
     let hs = head-same file below h in
     let b₁ = below-rest (encodeHead head) r₁ file (hs .same) below in
-    with-parsed (parseLevels today (2 ^ head .degree) []) _ r₁ e₁ λ powers r₂ p e₂.
-    let ps = list-same (2 ^ head .degree) r₁ b₁ p in
-    let b₂ = below-rest (encodeNumbers powers) r₂ r₁ (ps .same) b₁ in
-    with-parsed (parseLevels today (2 ^ head .degree) []) _ r₂ e₂ λ forces r₃ q e₃.
-    let fs = list-same (2 ^ head .degree) r₂ b₂ q in
-    let b₃ = below-rest (encodeNumbers forces) r₃ r₂ (fs .same) b₂ in
-    with-parsed (parseName >>= parseEnd) _ r₃ e₃ λ name r₅ l e₅.
-    let ns = last-same r₃ b₃ l in
-    let content : Trial = record { head = head; powers = powers; forces = forces; name = name } in
+    with-parsed (parseLists today (2 ^ head .degree) (suc (head .version))) _ r₁ e₁ λ lists r₂ l e₂.
+    let ls = lists-same (2 ^ head .degree) (suc (head .version)) r₁ b₁ l in
+    let b₂ = below-rest (encodeLists lists) r₂ r₁ (ls .same) b₁ in
+    with-parsed (parseName >>= parseEnd) _ r₂ e₂ λ name r₃ l e₃.
+    let ns = last-same r₂ b₂ l in
+    let content : Trial = record { head = head; lists = lists; name = name } in
     let t-is : t ≡ content = cc in
     rw t-is
     (record {
-      low-powers = ps .low;
-      low-forces = fs .low;
+      formed = record { codes = hs .many; lists = ls .many };
+      low = ls .low;
       clear =
-          clear-append (headCauses head) (bodyCauses content) (hs .clear)
-          (rw (ps .size) (fs .size), (ps .differ, (fs .differ, ns .clear)));
-      same = simp append-assoc (rw (ns .same, fs .same, ps .same) (hs .same));
+          clear-append (headCauses today head) (bodyCauses content) (hs .clear)
+          (clear-append (listCauses (2 ^ head .degree) lists) (nameCauses name) (lists-clear (2 ^ head .degree) lists (ls .whole))
+          (ns .clear));
+      same = simp append-assoc (rw (ns .same, ls .same) (hs .same));
     })

@@ -4,4 +4,5 @@ pub mod Number
 pub mod Levels
 pub mod Trial
 pub mod Replies
+pub mod Before
 pub mod Claims

@@ -1,10 +1,13 @@
 -- The rules for files in which releases differ. The parser takes them as a parameter.
+use Prim.Native.Nat.{ℕ}
 use Rattle.levels.specs.Levels.{Rule, repeated}
 
 pub record Rules : Type 0 where
+  -- The highest version; the lowest is 1.
+  pub highest : ℕ
   -- Which level may not follow those before it in its list.
   pub barred : Rule
 
--- Today's rules. Document 02, request a: a level equal to an earlier one of its list may not follow.
+-- Today's rules. Document 02, request a: a level equal to an earlier one of its list may not follow; request e: version 2.
 abbrev pub today : Rules
-today = record { barred = repeated }
+today = record { highest = 2; barred = repeated }

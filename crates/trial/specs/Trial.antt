@@ -1,74 +1,76 @@
--- Document 01, "Trial file": the content of a trial, its encoding, and the parser of a file, field by field.
-use Prim.Native.Nat.{ℕ, _^_}
-use mathlib.Core.Bool.{Bool, false, not, _||_}
+-- Document 01, "Trial file", and document 02, request e: the content of a trial, its encoding, and the parser of a file, field by field.
+-- One definition serves both versions: version v has v + 1 codes and v + 1 lists of levels.
+use Prim.Native.Nat.{ℕ, zero, suc, _^_}
+use mathlib.Core.Bool.{Bool, false, _||_}
 use mathlib.Core.List.{List, [], _∷_, _++_}
-use lib.Dec.{ltb, eqb}
+use lib.Dec.{ltb}
 use lib.ListN.{length, take, drop}
 use Rattle.reply.specs.Reply.{Cause, _gives_}
 use Rattle.poly.specs.Limits.{outside}
-use Rattle.poly.specs.Causes.{sheetDegreeCause, codeCauses, commonFactor}
+use Rattle.poly.specs.Causes.{sheetDegreeCause, codeCauses, commonFactors, coprimeCauses}
 use Rattle.trial.specs.Rules.{Rules, today}
-use Rattle.trial.specs.Parser.{parsed, Parser, pure, _>>=_, barring}
+use Rattle.trial.specs.Parser.{parsed, Parser, pure, _>>=_, barring, checked}
 use Rattle.trial.specs.Number.{encodeNumber, encodeNumbers, field}
 use Rattle.trial.specs.Levels.{parseLevels}
 
--- The fields in front of the levels, behind the version.
+-- The fields in front of the levels. The codes are f, g and, in version 2, h.
 pub record Head : Type 0 where
+  pub version : ℕ
   pub degree : ℕ
-  pub f : ℕ
-  pub g : ℕ
+  pub codes : List ℕ
 
+-- The lists are the powers, the forces and, in version 2, the times: list k has the levels that the symbols of code k stand for.
 pub record Trial : Type 0 where
   pub head : Head
-  pub powers : List ℕ
-  pub forces : List ℕ
+  pub lists : List (List ℕ)
   pub name : List ℕ
 
--- A content from its parts, as a call passes them.
-abbrev pub headFrom : ℕ → ℕ → ℕ → Head
-headFrom n f g = record { degree = n; f = f; g = g }
+-- A content from its parts, as a call passes them: codes and lists that the version does not have are left out.
+abbrev pub headFrom : ℕ → ℕ → List ℕ → Head
+headFrom v n codes = record { version = v; degree = n; codes = take (suc v) codes }
 
-abbrev pub trialFrom : ℕ → ℕ → ℕ → List ℕ → List ℕ → List ℕ → Trial
-trialFrom n f g powers forces name = record { head = headFrom n f g; powers = powers; forces = forces; name = name }
-
-abbrev pub version : ℕ
-version = 1
+abbrev pub trialFrom : ℕ → ℕ → List ℕ → List (List ℕ) → List ℕ → Trial
+trialFrom v n codes lists name = record { head = headFrom v n codes; lists = take (suc v) lists; name = name }
 
 unfoldable pub encodeHead : Head → List ℕ
-encodeHead head = encodeNumber version ++ encodeNumber (head .degree) ++ encodeNumber (head .f) ++ encodeNumber (head .g)
+encodeHead head = encodeNumbers (head .version ∷ head .degree ∷ head .codes)
 
-unfoldable pub encodeBody : List ℕ → List ℕ → List ℕ → List ℕ
-encodeBody powers forces name = encodeNumbers powers ++ encodeNumbers forces ++ encodeNumber (length name) ++ name
+abbrev pub encodeLists : List (List ℕ) → List ℕ
+encodeLists [] = []
+encodeLists (levels ∷ lists) = encodeNumbers levels ++ encodeLists lists
+
+unfoldable pub encodeBody : List (List ℕ) → List ℕ → List ℕ
+encodeBody lists name = encodeLists lists ++ encodeNumber (length name) ++ name
 
 unfoldable pub encode : Trial → List ℕ
-encode t = encodeHead (t .head) ++ encodeBody (t .powers) (t .forces) (t .name)
+encode t = encodeHead (t .head) ++ encodeBody (t .lists) (t .name)
 
--- 11: version not 1.
-abbrev pub versionCauses : ℕ → List Cause
-versionCauses v = not (eqb v version) gives 11 ∷ []
+-- 11: a version that the rules do not have.
+abbrev pub versionCauses : Rules → ℕ → List Cause
+versionCauses rules v = outside 1 (rules .highest) v gives 11 ∷ []
 
 -- 12: degree outside 2 to 6.
 abbrev pub degreeCauses : ℕ → List Cause
 degreeCauses n = sheetDegreeCause n ∷ []
 
--- 6 and 7 for g, then 8.
-abbrev pub pairCauses : ℕ → ℕ → ℕ → List Cause
-pairCauses n f g = codeCauses n g ++ (commonFactor f g ∷ [])
+-- What a head is refused for: its version, its degree, 6 and 7 for each code, then 8 for any two.
+abbrev pub headCauses : Rules → Head → List Cause
+headCauses rules head =
+    versionCauses rules (head .version) ++ degreeCauses (head .degree) ++ coprimeCauses (head .degree) (head .codes)
 
--- What a head is refused for.
-abbrev pub headCauses : Head → List Cause
-headCauses head =
-    degreeCauses (head .degree) ++ codeCauses (head .degree) (head .f) ++ pairCauses (head .degree) (head .f) (head .g)
+-- So many codes of degree n.
+abbrev pub parseCodes : ℕ → ℕ → Parser (List ℕ)
+parseCodes n zero = pure []
+parseCodes n (suc count) = field (codeCauses n) >>= λ code. parseCodes n count >>= λ codes. pure (code ∷ codes)
 
--- The codes, behind the degree n.
-unfoldable pub parseCodes : ℕ → Parser Head
-parseCodes n =
-    field (codeCauses n) >>= λ f.
-    field (pairCauses n f) >>= λ g.
-    pure (record { degree = n; f = f; g = g })
+-- The codes, behind the version v and the degree n. 8 follows the last of them.
+unfoldable pub parseCoprime : ℕ → ℕ → Parser Head
+parseCoprime v n =
+    checked (parseCodes n (suc v)) commonFactors >>= λ codes.
+    pure (record { version = v; degree = n; codes = codes })
 
-unfoldable pub parseHead : Parser Head
-parseHead = field versionCauses >>= λ _. field degreeCauses >>= parseCodes
+unfoldable pub parseHead : Rules → Parser Head
+parseHead rules = field (versionCauses rules) >>= λ v. field degreeCauses >>= parseCoprime v
 
 -- 15: longer than 40 bytes.
 abbrev pub sizeCauses : ℕ → List Cause
@@ -93,17 +95,22 @@ parseName = field sizeCauses >>= parseText
 unfoldable pub parseEnd : List ℕ → Parser (List ℕ)
 parseEnd name rest = barring (ltb 0 (length rest) gives 17 ∷ []) (pure name) rest
 
+-- So many lists of levels, each of the length given.
+abbrev pub parseLists : Rules → ℕ → ℕ → Parser (List (List ℕ))
+parseLists rules order zero = pure []
+parseLists rules order (suc count) =
+    parseLevels rules order [] >>= λ levels. parseLists rules order count >>= λ lists. pure (levels ∷ lists)
+
 -- The lists and the name, behind the head.
 unfoldable pub parseBody : Rules → Head → Parser Trial
 parseBody rules head =
-    parseLevels rules (2 ^ head .degree) [] >>= λ powers.
-    parseLevels rules (2 ^ head .degree) [] >>= λ forces.
+    parseLists rules (2 ^ head .degree) (suc (head .version)) >>= λ lists.
     parseName >>= parseEnd >>= λ name.
-    pure (record { head = head; powers = powers; forces = forces; name = name })
+    pure (record { head = head; lists = lists; name = name })
 
 -- A whole file, under any rules and under today's.
 abbrev pub parseUnder : Rules → Parser Trial
-parseUnder rules = parseHead >>= parseBody rules
+parseUnder rules = parseHead rules >>= parseBody rules
 
 unfoldable pub parse : Parser Trial
 parse = parseUnder today

@@ -4,3 +4,5 @@ pub mod Passes
 pub mod Text
 pub mod Part
 pub mod Reading
+pub mod Heads
+pub mod LevelLists

@@ -49,11 +49,6 @@ module _ {file : List ℕ} {at count : ℕ} {r : Decoded} {out : List ℕ} (deco
   pub differ-told : repeats (take (r .read) out) ≡ false → ListRead file at count (r .behind) out
   differ-told e = record { says = rw e at (decodes .says); inside = decodes .inside }
 
--- Two parsers that agree.
-pub reads-as : {these those : Parser ℕ} {file : List ℕ} {at : ℕ} {r : ReadNumber} → ((bytes : List ℕ) → these bytes ≡ those bytes)
-    → Reads these file at r → Reads those file at r
-reads-as {file = file} {at = at} same reads = record { says = reads .says ∙ same (drop at file); inside = reads .inside }
-
 -- A checked field, from what its parser read.
 module _ (causes : ℕ → List Cause) (parser : Parser ℕ) (file : List ℕ) (at : ℕ) {r : ReadNumber} (reads : Reads parser file at r) where
   pub refused-field : {why : Refusal} → r ≡ Refused why → Reads (checked parser causes) file at (Refused why)

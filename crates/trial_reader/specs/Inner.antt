@@ -1,9 +1,9 @@
 -- Only contracts of functions inside the crate use these definitions: their answers in the words of the parser, with a position of the file
 -- standing for the bytes from there on.
 use mathlib.Core.Path.{_≡_}
-use Prim.Native.Nat.{ℕ, _+_, _≤_}
+use Prim.Native.Nat.{ℕ, suc, _+_, _≤_}
 use mathlib.Core.Bool.{cond}
-use mathlib.Core.List.{List, []}
+use mathlib.Core.List.{List, [], _∷_}
 use lib.ListN.{length, take, drop}
 use Rattle.levels.specs.Levels.{repeats}
 use Rattle.reply.specs.Numbers.{numberOf}
@@ -20,11 +20,13 @@ use Rattle.trial_reader.specs.declared.names.ReadName.the-variants.{Foun
 use Rattle.trial_reader.specs.declared.reader.Layout.{Layout}
 use Rattle.trial_reader.specs.declared.reader.Verdict.{Verdict}
 use Rattle.trial_reader.specs.declared.reader.Verdict.the-variants.{Accepted, Refused as Unaccepted}
-use Rattle.trial.specs.Parser.{Parsed, parsed, failed, Parser, _>>=_, checked}
-use Rattle.trial.specs.Number.{above, parseGroups, ceilingCauses}
+use Rattle.trial_reader.specs.declared.reader.Content.{Content}
+use Rattle.poly.specs.Causes.{codeCauses, commonFactors}
+use Rattle.trial.specs.Parser.{Parsed, parsed, failed, Parser, pure, _>>=_, barring, checked}
+use Rattle.trial.specs.Number.{field, above, parseGroups, ceilingCauses}
 use Rattle.trial.specs.Rules.{today}
 use Rattle.trial.specs.Levels.{parseLevels}
-use Rattle.trial.specs.Trial.{Head, Trial, parseName, parseEnd}
+use Rattle.trial.specs.Trial.{Head, Trial, headFrom, parseName, parseLists, parseEnd}
 
 -- A number and the bytes behind it.
 abbrev pub numberParsed : List ℕ → ReadNumber → Parsed ℕ
@@ -45,16 +47,31 @@ pub record Reads (parser : Parser ℕ) (file : List ℕ) (at : ℕ) (r : ReadNum
 abbrev pub parseMore : ℕ → Parser ℕ
 parseMore low = checked (λ bytes. above low (parseGroups 4 bytes)) (ceilingCauses 4294967295)
 
--- The fields in front of the levels and the bytes behind them.
-abbrev pub headOf : CodeHead → Head
-headOf head = record { degree = head .degree; f = head .f; g = head .g }
+-- The head with these codes, unless two of them have a common factor.
+abbrev pub coprimeHead : ℕ → ℕ → List ℕ → Parser Head
+coprimeHead v n codes = barring (commonFactors codes) (pure (record { version = v; degree = n; codes = codes }))
 
+-- The third code of version 2, and the head.
+abbrev pub thirdCode : ℕ → ℕ → ℕ → Parser Head
+thirdCode n f g = field (codeCauses n) >>= λ h. coprimeHead 2 n (f ∷ g ∷ h ∷ [])
+
+-- The fields in front of the levels.
+abbrev pub headOf : CodeHead → Head
+headOf head = headFrom (head .version) (head .degree) (head .f ∷ head .g ∷ head .h ∷ [])
+
+-- The version is one of the two, and version 1 has 0 for the third code.
+pub record Versioned (head : CodeHead) : Type 0 where
+  pub low : 1 ≤ head .version
+  pub high : head .version ≤ 2
+  pub unused : head .version ≡ 1 → head .h ≡ 0
+
+-- The same and the bytes behind them.
 abbrev pub headParsed : List ℕ → ReadHead → Parsed Head
 headParsed file (Found head next) = parsed (headOf head) (drop next file)
 headParsed file (Unread why) = failed (numberOf why)
 
 abbrev pub HeadInside : List ℕ → ReadHead → Type 0
-HeadInside file (Found head next) = next ≤ length file
+HeadInside file (Found head next) = (next ≤ length file) × Versioned head
 HeadInside file (Unread why) = Unit
 
 -- The answer is what the parser of a head gives at the position.
@@ -74,6 +91,19 @@ ListInside file (Impassable why) = Unit
 -- The answer, with the slice afterwards, is what the parser of so many levels gives at the position.
 pub record ListRead (file : List ℕ) (at count : ℕ) (r : Behind) (out : List ℕ) : Type 0 where
   pub says : listParsed file count out r ≡ parseLevels today count [] (drop at file)
+  pub inside : ListInside file r
+
+-- The lists that a version has, each so many levels at the front of its slice, and the bytes behind them.
+abbrev pub listsAt : ℕ → ℕ → List ℕ → List ℕ → List ℕ → List (List ℕ)
+listsAt v count powers forces times = take (suc v) (take count powers ∷ take count forces ∷ take count times ∷ [])
+
+abbrev pub listsParsed : List ℕ → List (List ℕ) → Behind → Parsed (List (List ℕ))
+listsParsed file lists (At next) = parsed lists (drop next file)
+listsParsed file lists (Impassable why) = failed (numberOf why)
+
+-- The answer, with the three slices afterwards, is what the parser of the lists gives at the position.
+pub record ListsRead (file : List ℕ) (at v count : ℕ) (r : Behind) (powers forces times : List ℕ) : Type 0 where
+  pub says : listsParsed file (listsAt v count powers forces times) r ≡ parseLists today count (suc v) (drop at file)
   pub inside : ListInside file r
 
 -- The levels at the front of the slice, as many as were read, decide first: the parser refuses by 14 where one is equal to an earlier one.
@@ -98,26 +128,45 @@ pub record NameRead (file : List ℕ) (at : ℕ) (r : ReadName) : Type 0 where
   pub says : nameParsed file r ≡ (parseName >>= parseEnd) (drop at file)
   pub inside : NameInside file r
 
--- The content of an accepted file: its lists, as long as the layout says, at the front of two slices, and its name where it says.
-abbrev pub contentOf : List ℕ → List ℕ → List ℕ → Layout → Trial
-contentOf file powers forces layout =
+-- The content of an accepted file: its lists, as long as the layout says, at the front of the slices, and its name where it says.
+abbrev pub contentOf : List ℕ → List ℕ → List ℕ → List ℕ → Layout → Trial
+contentOf file powers forces times layout =
+    let head = layout .head in
     record {
-      head = headOf (layout .head);
-      powers = take (layout .count) powers;
-      forces = take (layout .count) forces;
+      head = headOf head;
+      lists = listsAt (head .version) (layout .count) powers forces times;
       name = take (layout .size) (drop (layout .«name_at») file);
     }
 
-abbrev pub trialParsed : List ℕ → List ℕ → List ℕ → Verdict → Parsed Trial
-trialParsed file powers forces (Accepted layout) = parsed (contentOf file powers forces layout) []
-trialParsed file powers forces (Unaccepted why) = failed (numberOf why)
+abbrev pub trialParsed : List ℕ → List ℕ → List ℕ → List ℕ → Verdict → Parsed Trial
+trialParsed file powers forces times (Accepted layout) = parsed (contentOf file powers forces times layout) []
+trialParsed file powers forces times (Unaccepted why) = failed (numberOf why)
 
--- No list is longer than 64, and the name reaches to the end of the file.
+-- No list is longer than 64, the name reaches to the end of the file, and the version is one of the two.
+pub record LayoutInside (file : List ℕ) (layout : Layout) : Type 0 where
+  pub few : layout .count ≤ 64
+  pub last : layout .«name_at» + layout .size ≡ length file
+  pub versioned : Versioned (layout .head)
+
 abbrev pub TrialInside : List ℕ → Verdict → Type 0
-TrialInside file (Accepted layout) = (layout .count ≤ 64) × (layout .«name_at» + layout .size ≡ length file)
+TrialInside file (Accepted layout) = LayoutInside file layout
 TrialInside file (Unaccepted why) = Unit
 
--- The answer, with both slices afterwards, is what the parser of a content gives at the position.
-pub record Surveys (parser : Parser Trial) (file : List ℕ) (at : ℕ) (r : Verdict) (powers forces : List ℕ) : Type 0 where
-  pub says : trialParsed file powers forces r ≡ parser (drop at file)
+-- The answer, with the slices afterwards, is what the parser of a content gives at the position.
+pub record Surveys (parser : Parser Trial) (file : List ℕ) (at : ℕ) (r : Verdict) (powers forces times : List ℕ) : Type 0 where
+  pub says : trialParsed file powers forces times r ≡ parser (drop at file)
   pub inside : TrialInside file r
+
+-- What the reader gives of an accepted file beside the levels.
+abbrev pub contentFrom : Layout → Content
+contentFrom layout =
+    let head = layout .head in
+    record {
+      degree = head .degree;
+      f = head .f;
+      g = head .g;
+      «name_at» = layout .«name_at»;
+      size = layout .size;
+      version = head .version;
+      h = head .h;
+    }

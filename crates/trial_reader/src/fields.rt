@@ -1,23 +1,35 @@
 // The fields in front of the levels, and the size of the name: each a number with its own rule.
 use crate::numbers::ReadNumber;
 use crate::numbers::read_number;
+use codes::check_three;
 use euclid::gcd;
 use poly::Checked;
 use poly::Degree;
 use poly::check;
 use reply::Refusal;
-ghost use Rattle.poly.specs.Causes.{codeCauses};
+ghost use mathlib.Core.Bool.{false};
+ghost use mathlib.Core.List.{[], _∷_};
+ghost use mathlib.Core.Path.{_≡_};
+ghost use Prim.Native.Nat.{_≤_};
+ghost use lib.ListN.{length};
+ghost use Rattle.reply.specs.Reply.{served, unless};
+ghost use Rattle.poly.specs.Limits.{outside};
+ghost use Rattle.poly.specs.Causes.{sheetDegreeCause, codeCauses, ownCauses};
+ghost use Rattle.trial.specs.Rules.{today};
 ghost use Rattle.trial.specs.Number.{field};
-ghost use Rattle.trial.specs.Trial.{versionCauses, degreeCauses, pairCauses, sizeCauses, parseCodes, parseHead};
-ghost use Rattle.trial_reader.specs.Inner.{Reads, HeadRead};
+ghost use Rattle.trial.specs.Trial.{versionCauses, degreeCauses, sizeCauses, parseCoprime, parseHead};
+ghost use Rattle.trial_reader.specs.Inner.{Reads, coprimeHead, thirdCode, HeadRead};
 
 fn version_field(file: &[u8], at: usize) -> ReadNumber
-    ensures { λ r. ⌜ Reads (field versionCauses) (now (file .entry)) at r ⌝ }
+    ensures { λ r. ⌜ Reads (field (versionCauses today)) (now (file .entry)) at r ⌝ }
 {
     match read_number(file, at) {
         ReadNumber::Refused(why) => ReadNumber::Refused(why),
         ReadNumber::Value(version, next) => {
-            if version != 1 {
+            if version < 1 {
+                return ReadNumber::Refused(Refusal::Version);
+            }
+            if 2 < version {
                 return ReadNumber::Refused(Refusal::Version);
             }
             ReadNumber::Value(version, next)
@@ -51,21 +63,6 @@ fn code_field(file: &[u8], at: usize, n: u32) -> ReadNumber
     }
 }
 
-// The code of g, which has no common factor with f.
-fn pair_field(file: &[u8], at: usize, n: u32, f: u32) -> ReadNumber
-    ensures { λ r. ⌜ Reads (field (pairCauses n f)) (now (file .entry)) at r ⌝ }
-{
-    match code_field(file, at, n) {
-        ReadNumber::Refused(why) => ReadNumber::Refused(why),
-        ReadNumber::Value(g, next) => {
-            if gcd(f, g) == 1 {
-                return ReadNumber::Value(g, next);
-            }
-            ReadNumber::Refused(Refusal::CommonFactor)
-        }
-    }
-}
-
 pub(crate) fn size_field(file: &[u8], at: usize) -> ReadNumber
     ensures { λ r. ⌜ Reads (field sizeCauses) (now (file .entry)) at r ⌝ }
 {
@@ -80,10 +77,13 @@ pub(crate) fn size_field(file: &[u8], at: usize) -> ReadNumber
     }
 }
 
+// The codes of version 1 are f and g, and h is 0.
 pub(crate) struct Head {
+    pub version: u32,
     pub degree: u32,
     pub f: u32,
     pub g: u32,
+    pub h: u32,
 }
 
 // The fields in front of the levels with the position behind them, or what the file is refused for.
@@ -93,26 +93,76 @@ pub(crate) enum ReadHead {
 }
 
 pub(crate) fn read_head(file: &[u8]) -> ReadHead
-    ensures { λ r. ⌜ HeadRead parseHead (now (file .entry)) 0 r ⌝ }
+    ensures { λ r. ⌜ HeadRead (parseHead today) (now (file .entry)) 0 r ⌝ }
 {
     match version_field(file, 0) {
         ReadNumber::Refused(why) => ReadHead::Refused(why),
-        ReadNumber::Value(_, at) => match degree_field(file, at) {
+        ReadNumber::Value(version, at) => match degree_field(file, at) {
             ReadNumber::Refused(why) => ReadHead::Refused(why),
-            ReadNumber::Value(degree, at) => read_codes(file, at, degree),
+            ReadNumber::Value(degree, at) => read_codes(file, at, version, degree),
         },
     }
 }
 
-// The codes, behind the degree.
-fn read_codes(file: &[u8], at: usize, degree: u32) -> ReadHead
-    ensures { λ r. ⌜ HeadRead (parseCodes degree) (now (file .entry)) at r ⌝ }
+// The codes, behind the version and the degree.
+fn read_codes(file: &[u8], at: usize, version: u32, degree: u32) -> ReadHead
+    requires { ⌜ (1 ≤ version) × (version ≤ 2) × (outside 2 6 degree ≡ false) ⌝ }
+    ensures { λ r. ⌜ HeadRead (parseCoprime version degree) (now (file .entry)) at r ⌝ }
 {
     match code_field(file, at, degree) {
         ReadNumber::Refused(why) => ReadHead::Refused(why),
-        ReadNumber::Value(f, at) => match pair_field(file, at, degree, f) {
+        ReadNumber::Value(f, at) => match code_field(file, at, degree) {
             ReadNumber::Refused(why) => ReadHead::Refused(why),
-            ReadNumber::Value(g, at) => ReadHead::Found(Head { degree, f, g }, at),
+            ReadNumber::Value(g, at) => {
+                if version == 1 {
+                    return two_codes(file, at, degree, f, g);
+                }
+                three_codes(file, at, degree, f, g)
+            }
+        },
+    }
+}
+
+// The head of version 1, where its codes are coprime; `at` is the position behind them.
+fn two_codes(file: &[u8], at: usize, degree: u32, f: u32, g: u32) -> ReadHead
+    requires { ⌜ at ≤ length (now file) ⌝ }
+    ensures { λ r. ⌜ HeadRead (coprimeHead 1 degree (f ∷ g ∷ [])) (now (file .entry)) at r ⌝ }
+{
+    if gcd(f, g) != 1 {
+        return ReadHead::Refused(Refusal::CommonFactor);
+    }
+    ReadHead::Found(
+        Head {
+            version: 1,
+            degree,
+            f,
+            g,
+            h: 0,
+        },
+        at,
+    )
+}
+
+// The third code, and the head of version 2, where its codes are pairwise coprime. The test has no other number left than 8: each code and
+// the degree have passed before.
+fn three_codes(file: &[u8], at: usize, degree: u32, f: u32, g: u32) -> ReadHead
+    requires { ⌜ served [] ≡ unless (sheetDegreeCause degree ∷ ownCauses degree (f ∷ g ∷ [])) (served []) ⌝ }
+    ensures { λ r. ⌜ HeadRead (thirdCode degree f g) (now (file .entry)) at r ⌝ }
+{
+    match code_field(file, at, degree) {
+        ReadNumber::Refused(why) => ReadHead::Refused(why),
+        ReadNumber::Value(h, at) => match check_three(degree, f, g, h) {
+            Checked::Refused(why) => ReadHead::Refused(why),
+            Checked::Passed => ReadHead::Found(
+                Head {
+                    version: 2,
+                    degree,
+                    f,
+                    g,
+                    h,
+                },
+                at,
+            ),
         },
     }
 }

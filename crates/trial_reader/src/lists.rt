@@ -7,7 +7,7 @@ ghost use mathlib.Core.Path.{_≡_};
 ghost use Prim.Native.Nat.{_≤_};
 ghost use lib.ListN.{length, take};
 ghost use Rattle.trial.specs.Replies.{over};
-ghost use Rattle.trial_reader.specs.Inner.{Decodes, ListRead};
+ghost use Rattle.trial_reader.specs.Inner.{Decodes, ListRead, ListsRead};
 
 // The position behind a list of levels, or what it is refused for.
 pub(crate) enum Behind {
@@ -58,7 +58,7 @@ fn decode_levels(file: &[u8], at: usize, count: usize, out: &mut [u16]) -> Decod
 
 // Reads so many levels at a position of the file to the front of `out`; where they are refused, some may be there already. A level equal to
 // an earlier one is refused before what stopped the reading, which stands behind it.
-pub(crate) fn read_levels(file: &[u8], at: usize, count: usize, out: &mut [u16]) -> Behind
+fn read_levels(file: &[u8], at: usize, count: usize, out: &mut [u16]) -> Behind
     requires { ⌜ (at ≤ length (now file)) × (count ≤ length (now out)) ⌝ }
     ensures { λ r. ⌜ ListRead (now (file .entry)) at count r (now (out .exit)) ⌝ }
 {
@@ -67,6 +67,35 @@ pub(crate) fn read_levels(file: &[u8], at: usize, count: usize, out: &mut [u16])
         return Behind::Refused(Refusal::LevelRepeated);
     }
     decoded.behind
+}
+
+// Reads the lists that the version has, each of so many levels, to the front of three slices.
+pub(crate) fn read_lists(
+    file: &[u8],
+    at: usize,
+    version: u32,
+    count: usize,
+    powers: &mut [u16],
+    forces: &mut [u16],
+    times: &mut [u16],
+) -> Behind
+    requires { ⌜ (1 ≤ version) × (version ≤ 2) × (at ≤ length (now file)) ⌝ }
+    requires { ⌜ (count ≤ length (now powers)) × (count ≤ length (now forces)) × (count ≤ length (now times)) ⌝ }
+    ensures { λ r.
+        ⌜ ListsRead (now (file .entry)) at version count r (now (powers .exit)) (now (forces .exit)) (now (times .exit)) ⌝ }
+{
+    match read_levels(file, at, count, powers) {
+        Behind::Refused(why) => Behind::Refused(why),
+        Behind::At(at) => match read_levels(file, at, count, forces) {
+            Behind::Refused(why) => Behind::Refused(why),
+            Behind::At(at) => {
+                if version == 1 {
+                    return Behind::At(at);
+                }
+                read_levels(file, at, count, times)
+            }
+        },
+    }
 }
 
 // Copies so many levels to the front of `out`.

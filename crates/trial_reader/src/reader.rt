@@ -1,22 +1,24 @@
 // The reader. It reads the levels into arrays of its own while it decides, and copies them only from an accepted file: each level is
-// decoded once, and a refusal leaves both lent slices as they were.
+// decoded once, and a refusal leaves the lent slices as they were.
 use crate::fields::Head;
 use crate::fields::ReadHead;
 use crate::fields::read_head;
 use crate::lists::Behind;
 use crate::lists::copy_levels;
-use crate::lists::read_levels;
+use crate::lists::read_lists;
 use crate::names::ReadName;
 use crate::names::read_name;
 use poly::Count;
 use poly::Degree;
 use reply::Refusal;
+ghost use mathlib.Core.Bool.{cond};
 ghost use mathlib.Core.Path.{_≡_};
 ghost use Prim.Native.Nat.{_^_, _≤_};
+ghost use lib.Dec.{eqb};
 ghost use lib.ListN.{length};
 ghost use Rattle.trial.specs.Rules.{today};
 ghost use Rattle.trial.specs.Trial.{parseBody, parse};
-ghost use Rattle.trial_reader.specs.Inner.{headOf, Surveys};
+ghost use Rattle.trial_reader.specs.Inner.{headOf, Versioned, Surveys, contentFrom};
 ghost use Rattle.trial_reader.specs.Answers.{ReadDone, namePart, Opens};
 
 // An accepted file but for its levels: its head, how many levels a list has, and where the name is.
@@ -32,10 +34,11 @@ enum Verdict {
     Refused(Refusal),
 }
 
-// The whole decision on a file, with the levels of an accepted one at the front of the two slices.
-fn survey(file: &[u8], powers: &mut [u16], forces: &mut [u16]) -> Verdict
-    requires { ⌜ (64 ≤ length (now powers)) × (64 ≤ length (now forces)) ⌝ }
-    ensures { λ r. ⌜ Surveys parse (now (file .entry)) 0 r (now (powers .exit)) (now (forces .exit)) ⌝ }
+// The whole decision on a file, with the levels of an accepted one at the front of the slices.
+fn survey(file: &[u8], powers: &mut [u16], forces: &mut [u16], times: &mut [u16]) -> Verdict
+    requires { ⌜ (64 ≤ length (now powers)) × (64 ≤ length (now forces)) × (64 ≤ length (now times)) ⌝ }
+    ensures { λ r.
+        ⌜ Surveys parse (now (file .entry)) 0 r (now (powers .exit)) (now (forces .exit)) (now (times .exit)) ⌝ }
 {
     match read_head(file) {
         ReadHead::Refused(why) => Verdict::Refused(why),
@@ -44,7 +47,7 @@ fn survey(file: &[u8], powers: &mut [u16], forces: &mut [u16]) -> Verdict
             let Count::Is(order) = (Degree { n }).order() else {
                 return Verdict::Refused(Refusal::SheetDegree);
             };
-            survey_body(file, head, order as usize, at, powers, forces)
+            survey_body(file, head, order as usize, at, powers, forces, times)
         }
     }
 }
@@ -57,35 +60,38 @@ fn survey_body(
     at: usize,
     powers: &mut [u16],
     forces: &mut [u16],
+    times: &mut [u16],
 ) -> Verdict
     requires { ⌜ (count ≡ 2 ^ head .degree) × (count ≤ 64) × (at ≤ length (now file)) ⌝ }
-    requires { ⌜ (64 ≤ length (now powers)) × (64 ≤ length (now forces)) ⌝ }
-    ensures { λ r. ⌜ Surveys (parseBody today (headOf head)) (now (file .entry)) at r (now (powers .exit)) (now (forces .exit)) ⌝ }
+    requires { ⌜ Versioned head ⌝ }
+    requires { ⌜ (64 ≤ length (now powers)) × (64 ≤ length (now forces)) × (64 ≤ length (now times)) ⌝ }
+    ensures { λ r.
+        ⌜ Surveys (parseBody today (headOf head)) (now (file .entry)) at r
+        (now (powers .exit)) (now (forces .exit)) (now (times .exit)) ⌝ }
 {
-    match read_levels(file, at, count, powers) {
+    match read_lists(file, at, head.version, count, powers, forces, times) {
         Behind::Refused(why) => Verdict::Refused(why),
-        Behind::At(at) => match read_levels(file, at, count, forces) {
-            Behind::Refused(why) => Verdict::Refused(why),
-            Behind::At(at) => match read_name(file, at) {
-                ReadName::Refused(why) => Verdict::Refused(why),
-                ReadName::Found { start, size } => Verdict::Accepted(Layout {
-                    head,
-                    count,
-                    name_at: start,
-                    size,
-                }),
-            },
+        Behind::At(at) => match read_name(file, at) {
+            ReadName::Refused(why) => Verdict::Refused(why),
+            ReadName::Found { start, size } => Verdict::Accepted(Layout {
+                head,
+                count,
+                name_at: start,
+                size,
+            }),
         },
     }
 }
 
-// The content of a file but for its levels: the degree, the codes, and where the name is in the file.
+// The content of a file but for its levels: the degree, the codes, where the name is in the file, and the version. In version 1 h is 0.
 pub struct Content {
     pub degree: u32,
     pub f: u32,
     pub g: u32,
     pub name_at: usize,
     pub size: usize,
+    pub version: u32,
+    pub h: u32,
 }
 
 pub enum ReadTrial {
@@ -93,11 +99,21 @@ pub enum ReadTrial {
     Refused(Refusal),
 }
 
-// Reads a file, with its levels into the two slices.
-pub fn read(file: &[u8], powers: &mut [u16], forces: &mut [u16]) -> ReadTrial
+// How many levels the third list has.
+fn times_count(version: u32, count: usize) -> usize
+    ensures { λ r. ⌜ r ≡ cond (eqb version 1) 0 count ⌝ }
+{
+    if version == 1 {
+        return 0;
+    }
+    count
+}
+
+// Reads a file, with its levels into the slices; version 1 leaves the third as it is.
+pub fn read(file: &[u8], powers: &mut [u16], forces: &mut [u16], times: &mut [u16]) -> ReadTrial
     ensures { λ r.
-        ⌜ ReadDone (now (file .entry)) (now (powers .entry)) (now (forces .entry)) r
-        (now (powers .exit)) (now (forces .exit)) ⌝ }
+        ⌜ ReadDone (now (file .entry)) (now (powers .entry)) (now (forces .entry)) (now (times .entry)) r
+        (now (powers .exit)) (now (forces .exit)) (now (times .exit)) ⌝ }
 {
     if powers.len() < 64 {
         return ReadTrial::Refused(Refusal::SliceLength);
@@ -105,23 +121,37 @@ pub fn read(file: &[u8], powers: &mut [u16], forces: &mut [u16]) -> ReadTrial
     if forces.len() < 64 {
         return ReadTrial::Refused(Refusal::SliceLength);
     }
+    if times.len() < 64 {
+        return ReadTrial::Refused(Refusal::SliceLength);
+    }
     let mut powers_read = [0u16; 64];
     let mut forces_read = [0u16; 64];
-    match survey(file, &mut powers_read, &mut forces_read) {
+    let mut times_read = [0u16; 64];
+    match survey(file, &mut powers_read, &mut forces_read, &mut times_read) {
         Verdict::Refused(why) => ReadTrial::Refused(why),
         Verdict::Accepted(layout) => {
+            copy_levels(&powers_read, layout.count, powers);
+            copy_levels(&forces_read, layout.count, forces);
             let head = layout.head;
-            let count = layout.count;
-            copy_levels(&powers_read, count, powers);
-            copy_levels(&forces_read, count, forces);
-            ReadTrial::Content(Content {
-                degree: head.degree,
-                f: head.f,
-                g: head.g,
-                name_at: layout.name_at,
-                size: layout.size,
-            })
+            copy_levels(&times_read, times_count(head.version, layout.count), times);
+            ReadTrial::Content(content_of(layout))
         }
+    }
+}
+
+// What the reader gives of an accepted file beside the levels.
+fn content_of(layout: Layout) -> Content
+    ensures { λ r. ⌜ r ≡ contentFrom layout ⌝ }
+{
+    let head = layout.head;
+    Content {
+        degree: head.degree,
+        f: head.f,
+        g: head.g,
+        name_at: layout.name_at,
+        size: layout.size,
+        version: head.version,
+        h: head.h,
     }
 }
 
@@ -152,13 +182,18 @@ pub struct Trial<'a> {
     pub name: &'a [u8],
 }
 
-// Reads a file, with its levels into the two slices and its name as a part of the file.
-pub fn open<'a>(file: &'a [u8], powers: &mut [u16], forces: &mut [u16]) -> Trial<'a>
+// Reads a file, with its levels into the slices and its name as a part of the file.
+pub fn open<'a>(
+    file: &'a [u8],
+    powers: &mut [u16],
+    forces: &mut [u16],
+    times: &mut [u16],
+) -> Trial<'a>
     ensures { λ r.
-        ⌜ Opens (now (file .entry)) (now (powers .entry)) (now (forces .entry)) r
-        (now (powers .exit)) (now (forces .exit)) ⌝ }
+        ⌜ Opens (now (file .entry)) (now (powers .entry)) (now (forces .entry)) (now (times .entry)) r
+        (now (powers .exit)) (now (forces .exit)) (now (times .exit)) ⌝ }
 {
-    let answer = read(file, powers, forces);
+    let answer = read(file, powers, forces, times);
     let name = name_part(file, answer);
     Trial { answer, name }
 }

@@ -1,2 +1,3 @@
 pub mod Putting
+pub mod Versions
 pub mod Writing

@@ -12,12 +12,13 @@ use Rattle.reply.specs.Reply.{served, refused, unless}
 use Rattle.reply.proofs.Order.{passed, failed, kept, none-applies}
 use Rattle.reply.specs.declared.Refusal.{Refusal}
 use Rattle.trial_writer.specs.declared.writer.Written.the-variants.{Length, Refused}
-use Rattle.trial.specs.Trial.{Trial, encode}
-use Rattle.trial.specs.Replies.{over, contentCauses, roomCauses, writeReply}
+use Rattle.trial.specs.Trial.{Trial, trialFrom, encode}
+use Rattle.trial.specs.Replies.{over, listOf, contentCauses, roomCauses, writeReply}
 use Rattle.trial_writer.specs.Inner.{Short, Puts}
 use Rattle.trial_writer.specs.Answers.{WriteDone}
+use Rattle.trial_writer.proofs.Versions.{has-second}
 use Rattle.trial.proofs.Order.{order-few}
-use Rattle.trial.proofs.Content.{sound}
+use Rattle.trial.proofs.Content.{Sound, sound}
 
 module _ (t : Trial) (out : List ℕ) where
   pub refused-write : {why : Refusal} → refused (numberOf why) ≡ writeReply t (length out) → WriteDone t out (Refused why) out
@@ -42,12 +43,24 @@ module _ (t : Trial) (out : List ℕ) where
         let room : 0 + length (encode t) ≤ length out = omega arith in
         record { reply = rw (e, p .next, zero-add); after = rw (e, p .after, sets-eq (encode t) out 0 room, zero-add) }
 
-    pub short : Short (t .powers) (t .forces) (t .name)
-    short =
-        let s = sound t (none-applies (contentCauses t) [] [] (sym accepted)) in
-        let few : 2 ^ t .head .degree ≤ 64 = order-few (t .head .degree) (s .degree) in
-        record {
-          fewPowers = omega (arith, s .powers-long);
-          fewForces = omega (arith, s .forces-long);
-          shortName = s .name-short;
-        }
+few : (t : Trial) → Sound t → (k : ℕ) → k < length (t .lists) → length (listOf k t) ≤ 64
+few t s k h =
+    let order : 2 ^ t .head .degree ≤ 64 = order-few (t .head .degree) (s .degree) in
+    omega (arith, s .lists k h .long)
+
+-- What is accepted is short.
+pub short : (v n : ℕ) (codes powers forces times name : List ℕ)
+    → let t : Trial = trialFrom v n codes (powers ∷ forces ∷ times ∷ []) name in
+    served [] ≡ unless (contentCauses t) (served [])
+    → Short v powers forces times name
+short v n codes powers forces times name accepted =
+    let t : Trial = trialFrom v n codes (powers ∷ forces ∷ times ∷ []) name in
+    let s = sound t (none-applies (contentCauses t) [] [] (sym accepted)) in
+    let two = has-second v (s .version) forces times in
+    record {
+      known = s .version;
+      fewPowers = few t s 0 (omega arith);
+      fewForces = rw two at (few t s 1 (rw two (omega arith)));
+      fewTimes = λ e. rw e at (few t s 2 (rw e (omega arith)));
+      shortName = s .name-short;
+    }

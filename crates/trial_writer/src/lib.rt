@@ -1,4 +1,5 @@
 // The writer of trial files.
+mod checks;
 mod lists;
 mod names;
 mod numbers;

@@ -1,11 +1,14 @@
 // Lists of levels.
 use crate::numbers::put_number;
 use crate::numbers::width;
+ghost use mathlib.Core.Bool.{false};
 ghost use mathlib.Core.Path.{_≡_};
 ghost use Prim.Native.Nat.{_+_, _≤_};
 ghost use lib.ListN.{length};
+ghost use Rattle.poly.specs.Limits.{outside};
 ghost use Rattle.trial.specs.Number.{encodeNumbers};
-ghost use Rattle.trial_writer.specs.Inner.{Puts};
+ghost use Rattle.trial.specs.Trial.{encodeLists};
+ghost use Rattle.trial_writer.specs.Inner.{listsFrom, Puts};
 
 fn wide(level: u16) -> u32
     ensures { λ r. ⌜ r ≡ level ⌝ }
@@ -39,4 +42,27 @@ pub(crate) fn put_levels(out: &mut [u8], at: usize, levels: &[u16]) -> usize
         i += 1;
     }
     next
+}
+
+// Puts the lists of a version, one after the other, and gives the position behind them.
+pub(crate) fn put_lists(
+    out: &mut [u8],
+    at: usize,
+    version: u32,
+    powers: &[u16],
+    forces: &[u16],
+    times: &[u16],
+) -> usize
+    requires known { ⌜ outside 1 2 version ≡ false ⌝ }
+    requires room { ⌜ at + length (encodeLists (listsFrom version (now powers) (now forces) (now times))) ≤ length (now out) ⌝ }
+    ensures { λ r.
+        ⌜ Puts (now (out .entry)) at (encodeLists (listsFrom version (now (powers .entry)) (now (forces .entry)) (now (times .entry))))
+        r (now (out .exit)) ⌝ }
+{
+    let at = put_levels(out, at, powers);
+    let at = put_levels(out, at, forces);
+    if version == 1 {
+        return at;
+    }
+    put_levels(out, at, times)
 }

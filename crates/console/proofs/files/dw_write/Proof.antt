@@ -9,7 +9,7 @@ use Rattle.console.proofs.files.dw_write.Tie as tie
 returns : tie.Need-returns
 returns c =
     let call = c .before .before .before .before .before .before in
-    let a = call .before .before .before .before .before .before .args in
+    let a = call .before .before .before .before .before .before .before .args in
     let done = call .write .ensures in
     let e = told writtenReply (c .before .before .answer .given .1) (done .reply) in
     record { returned = c .number .ensures ∙ returned e; outAfter = done .after; sizeAfter = holds e 0 (a .size .now) }
@@ -17,7 +17,7 @@ returns c =
 returns-2 : tie.Need-returns-2
 returns-2 c =
     let call = c .before .before .before .before .before in
-    let a = call .before .before .before .before .before .before .args in
+    let a = call .before .before .before .before .before .before .before .args in
     let done = call .write .ensures in
     let e = told writtenReply (c .before .answer2 .given .1) (done .reply) in
     record { returned = returned e; outAfter = done .after; sizeAfter = holds e 0 (a .size .now) }

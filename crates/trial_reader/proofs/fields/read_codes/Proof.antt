@@ -1,55 +1,63 @@
--- `read_codes` meets its contract: the field of f hands the position behind it to that of g.
+-- `read_codes` meets its contract: the field of f hands the position behind it to that of g, and that to what the version has behind it.
 use mathlib.Core.Path.{_≡_}
-use lib.ListN.{drop}
+use native.Mathlib.Omega.{arith}
 use Rattle.poly.specs.Causes.{codeCauses}
-use Rattle.trial.specs.Parser.{parsed}
 use Rattle.trial.specs.Number.{field}
-use Rattle.trial.specs.Trial.{pairCauses, parseCodes}
-use Rattle.trial_reader.proofs.Told.{value-told, inside-told, refusal-told}
+use Rattle.trial_reader.proofs.Told.{inside-told}
+use Rattle.trial_reader.proofs.Heads.{first-refused, second-refused, both-passed, both-read, three-read}
 use borrow.Author.Needs.{needs}
 use Rattle.trial_reader.proofs.fields.read_codes.Statement.{statement}
 use Rattle.trial_reader.proofs.fields.read_codes.Tie as tie
 
--- What the field of f gave.
-f-told : (c : tie.After-f) →
-    let a = c .before .before .before .before .args in
-    let f = c .f .given .0 in
-    field (codeCauses (a .degree)) (drop (a .at) (a .file .now)) ≡ parsed (f .0) (drop (f .1 .0) (a .file .now))
-f-told c =
-    let a = c .before .before .before .before .args in
-    value-told (field (codeCauses (a .degree))) (a .file .now) (a .at) (c .before .before .code-field .ensures) (c .f .given .1)
+two-codes-requires : tie.Need-two-codes-requires
+two-codes-requires c κs =
+    let g = c .before .before in
+    let a = g .before .before .before .before .before .before .before .before .args in
+    let f = g .before .before .before .before .f .given in
+    inside-told (field (codeCauses (a .degree))) (a .file .now) (f .0 .1 .0) (g .before .before .code-field2 .ensures) (g .g .given .1)
 
 returns : tie.Need-returns
-unfolding parseCodes
 returns c =
-    let a = c .before .before .before .before .before .args in
-    let read = c .before .before .before .code-field .ensures in
-    record { says = rw (refusal-told (field (codeCauses (a .degree))) (a .file .now) (a .at) read (c .before .why .given .1)); inside = tt }
+    let g = c .before .before .before in
+    let f = g .before .before .before .before in
+    let a = f .before .before .before .before .args in
+    rw (c .before .if1 .taken)
+    (both-read (a .degree) (a .file .now) (a .at) (f .before .before .code-field .ensures) (f .f .given .1)
+    (g .before .before .code-field2 .ensures) (g .g .given .1) (c .two-codes .ensures))
 
 returns-2 : tie.Need-returns-2
-unfolding parseCodes
 returns-2 c =
-    let a = c .before .before .before .before .before .before .before .before .before .args in
-    let f = c .before .before .before .before .before .f .given .0 in
-    let parser = field (pairCauses (a .degree) (f .0)) in
-    let read = c .before .before .before .pair-field .ensures in
-    let refusal = refusal-told parser (a .file .now) (f .1 .0) read (c .before .why2 .given .1) in
-    record { says = rw (f-told (c .before .before .before .before .before), refusal); inside = tt }
+    let a = c .before .before .before .before .before .args in
+    first-refused (a .degree) (a .file .now) (a .at) (c .before .before .before .code-field .ensures) (a .version)
+    (c .before .why .given .1)
 
 returns-3 : tie.Need-returns-3
-unfolding parseCodes
 returns-3 c =
-    let a = c .before .before .before .before .before .before .before .before .before .args in
-    let f = c .before .before .before .before .before .f .given .0 in
-    let parser = field (pairCauses (a .degree) (f .0)) in
-    let read = c .before .before .before .pair-field .ensures in
-    let g = value-told parser (a .file .now) (f .1 .0) read (c .before .g .given .1) in
-    record {
-      says =
-          rw (f-told (c .before .before .before .before .before), g);
-      inside = inside-told parser (a .file .now) (f .1 .0) read
-          (c .before .g .given .1);
-    }
+    let f = c .before .before .before .before .before in
+    let start = f .before .before .before .before in
+    let a = start .args in
+    second-refused (a .degree) (a .file .now) (a .at) (f .before .before .code-field .ensures) (f .f .given .1)
+    (c .before .before .before .code-field2 .ensures) (a .version) (start .pre .0) (c .before .why2 .given .1)
+
+returns-4 : tie.Need-returns-4
+returns-4 c =
+    let g = c .before .before .before in
+    let f = g .before .before .before .before in
+    let start = f .before .before .before .before in
+    let two : start .args .version ≡ 2 = omega (arith, start .pre .0, start .pre .1, c .before .if1 .left) in
+    let a = start .args in
+    rw two
+    (three-read (a .degree) (a .file .now) (a .at) (f .before .before .code-field .ensures) (f .f .given .1)
+    (g .before .before .code-field2 .ensures) (g .g .given .1) (c .three-codes .ensures))
+
+three-codes-requires : tie.Need-three-codes-requires
+three-codes-requires c κs =
+    let g = c .before .before in
+    let f = g .before .before .before .before in
+    let start = f .before .before .before .before in
+    let a = start .args in
+    both-passed (a .degree) (a .file .now) (a .at) (f .before .before .code-field .ensures) (f .f .given .1)
+    (g .before .before .code-field2 .ensures) (g .g .given .1) (start .pre .2)
 
 pub read-codes-spec : {M : Type 1} → statement M
 read-codes-spec =
@@ -61,6 +69,9 @@ read-codes-spec =
     (λ c κs. search needs)
     (λ c. search needs)
     (λ c. search needs)
+    two-codes-requires
     returns
+    three-codes-requires
     returns-2
-    returns-3)
+    returns-3
+    returns-4)

@@ -1,8 +1,11 @@
 -- `read_head` meets its contract: each field hands the position behind it to the next.
 use mathlib.Core.Path.{_≡_}
 use lib.ListN.{drop}
+use Rattle.poly.proofs.Ranges.{within}
+use Rattle.trial.proofs.Parser.{checked-parsed}
 use Rattle.trial.specs.Parser.{parsed}
-use Rattle.trial.specs.Number.{field}
+use Rattle.trial.specs.Rules.{today}
+use Rattle.trial.specs.Number.{number, field}
 use Rattle.trial.specs.Trial.{versionCauses, degreeCauses, parseHead}
 use Rattle.trial_reader.proofs.Told.{value-told, refusal-told}
 use borrow.Author.Needs.{needs}
@@ -10,26 +13,27 @@ use Rattle.trial_reader.proofs.fields.read_head.Statement.{statement}
 use Rattle.trial_reader.proofs.fields.read_head.Tie as tie
 
 -- What the field of the version gave.
-version-told : (c : tie.After-at) →
+version-told : (c : tie.After-version) →
     let file = c .before .before .before .before .args .file .now in
-    let version = c .at .given .0 in
-    field versionCauses file ≡ parsed (version .0) (drop (version .1 .0) file)
+    let version = c .version .given .0 in
+    field (versionCauses today) file ≡ parsed (version .0) (drop (version .1 .0) file)
 version-told c =
-    value-told (field versionCauses) (c .before .before .before .before .args .file .now) 0 (c .before .before .version-field .ensures)
-    (c .at .given .1)
+    let file = c .before .before .before .before .args .file .now in
+    value-told (field (versionCauses today)) file 0 (c .before .before .version-field .ensures)
+    (c .version .given .1)
 
 returns : tie.Need-returns
 unfolding parseHead
 returns c =
     let file = c .before .before .before .before .before .args .file .now in
     let read = c .before .before .before .version-field .ensures in
-    record { says = rw (refusal-told (field versionCauses) file 0 read (c .before .why .given .1)); inside = tt }
+    record { says = rw (refusal-told (field (versionCauses today)) file 0 read (c .before .why .given .1)); inside = tt }
 
 returns-2 : tie.Need-returns-2
 unfolding parseHead
 returns-2 c =
     let file = c .before .before .before .before .before .before .before .before .before .args .file .now in
-    let at = c .before .before .before .before .before .at .given .0 .1 .0 in
+    let at = c .before .before .before .before .before .version .given .0 .1 .0 in
     let refusal =
     refusal-told (field degreeCauses) file at (c .before .before .before .degree-field .ensures) (c .before .why2 .given .1) in
     record { says = rw (version-told (c .before .before .before .before .before), refusal); inside = tt }
@@ -38,7 +42,7 @@ returns-3 : tie.Need-returns-3
 unfolding parseHead
 returns-3 c =
     let file = c .before .before .before .before .before .before .before .before .before .before .args .file .now in
-    let at = c .before .before .before .before .before .before .at .given .0 .1 .0 in
+    let at = c .before .before .before .before .before .before .version .given .0 .1 .0 in
     let degree =
     value-told (field degreeCauses) file at (c .before .before .before .before .degree-field .ensures)
     (c .before .before .degree .given .1) in
@@ -48,6 +52,16 @@ returns-3 c =
       inside
           = c .read-codes .ensures .inside;
     }
+
+read-codes-requires : tie.Need-read-codes-requires
+read-codes-requires c κs =
+    let degree = c .before in
+    let version = degree .before .before .before .before in
+    let file = version .before .before .before .before .args .file .now in
+    let at = version .version .given .0 .1 .0 in
+    let (low, high) = within 1 2 (checked-parsed number (versionCauses today) file (version-told version) .0 .0) in
+    let told = value-told (field degreeCauses) file at (degree .before .before .degree-field .ensures) (degree .degree .given .1) in
+    (low, high, checked-parsed number degreeCauses (drop at file) told .0 .0)
 
 pub read-head-spec : {M : Type 1} → statement M
 read-head-spec =
@@ -59,7 +73,7 @@ read-head-spec =
     (λ c κs. search needs)
     (λ c. search needs)
     (λ c. search needs)
-    (λ c κs. search needs)
+    read-codes-requires
     returns
     returns-2
     returns-3)

@@ -2,14 +2,15 @@
 use mathlib.Core.Path.{_≡_, sym, ap, _∙_}
 use mathlib.Core.Bool.{false}
 use mathlib.Core.List.{List}
-use Prim.Native.Nat.{ℕ}
+use Prim.Native.Nat.{ℕ, suc}
 use lib.ListN.{drop}
 use Rattle.poly.specs.Limits.{outside}
-use Rattle.poly.specs.Causes.{codeCauses}
+use Rattle.poly.specs.Causes.{commonFactors}
 use Rattle.poly.specs.Replies.{countReply}
-use Rattle.trial.specs.Parser.{parsed}
+use Rattle.trial.specs.Parser.{parsed, checked}
+use Rattle.trial.specs.Rules.{today}
 use Rattle.trial.specs.Number.{number, field}
-use Rattle.trial.specs.Trial.{Head, versionCauses, degreeCauses, pairCauses, parseCodes, parseHead, parse}
+use Rattle.trial.specs.Trial.{Head, versionCauses, degreeCauses, parseCodes, parseCoprime, parseHead, parse}
 use Rattle.trial.proofs.Parser.{with-parsed, checked-parsed}
 use Rattle.trial.proofs.Order.{order-there, order-is, order-few}
 use Rattle.trial_reader.specs.Inner.{headOf, headParsed}
@@ -18,23 +19,23 @@ use Rattle.trial_reader.proofs.reader.survey.Statement.{statement}
 use Rattle.trial_reader.proofs.reader.survey.Tie as tie
 
 -- A head that was read has the degree of a sheet.
-head-degree : (bytes : List ℕ) {head : Head} {rest : List ℕ} → parseHead bytes ≡ parsed head rest → outside 2 6 (head .degree) ≡ false
-unfolding parseHead parseCodes
+head-degree : (bytes : List ℕ) {head : Head} {rest : List ℕ} → parseHead today bytes ≡ parsed head rest
+    → outside 2 6 (head .degree) ≡ false
+unfolding parseHead parseCoprime
 head-degree bytes {head} e =
-    with-parsed (field versionCauses) _ bytes e λ v r₁ p₁ e₁.
+    with-parsed (field (versionCauses today)) _ bytes e λ v r₁ p₁ e₁.
     with-parsed (field degreeCauses) _ r₁ e₁ λ n r₂ p₂ e₂.
-    with-parsed (field (codeCauses n)) _ r₂ e₂ λ f r₃ p₃ e₃.
-    with-parsed (field (pairCauses n f)) _ r₃ e₃ λ g r₄ p₄ e₄.
-    let head-is : head ≡ record { degree = n; f = f; g = g } = cc in
+    with-parsed (checked (parseCodes n (suc v)) commonFactors) _ r₂ e₂ λ codes r₃ p₃ e₃.
+    let head-is : head ≡ record { version = v; degree = n; codes = codes } = cc in
     rw head-is (checked-parsed number degreeCauses r₁ p₂ .0 .0)
 
 -- The function's entry, from behind the head.
 abbrev entry : tie.After-read-head → tie.Start
-entry c = c .before .before .before .before
+entry c = c .before .before .before .before .before
 
 head-told : (c : tie.After-head) →
     let file = entry (c .before .before) .args .file .now in
-    parseHead file ≡ parsed (headOf (c .head .given .0 .0)) (drop (c .head .given .0 .1 .0) file)
+    parseHead today file ≡ parsed (headOf (c .head .given .0 .0)) (drop (c .head .given .0 .1 .0) file)
 head-told c =
     let read = c .before .before in
     sym (read .read-head .ensures .says) ∙ ap (headParsed (entry read .args .file .now)) (c .head .given .1)
@@ -44,13 +45,14 @@ degree-told c = head-degree (entry (c .before .before) .args .file .now) (head-t
 
 survey-body-requires : tie.Need-survey-body-requires
 survey-body-requires c κs =
-    let order = c .before .before .before in
+    let order = c .before .before .before .before in
     let head = order .before .before .before .before in
     let read = head .before .before in
     let pre = entry read .pre in
     let n = head .head .given .0 .0 .degree in
     let is = order-is n (degree-told head) (sym (ap countReply (order .order2 .given .1)) ∙ order .before .before .order .ensures) in
-    ((is, rw is (order-few n (degree-told head)), rw (head .head .given .1) at (read .read-head .ensures .inside)), pre)
+    let found = rw (head .head .given .1) at (read .read-head .ensures .inside) in
+    ((is, rw is (order-few n (degree-told head)), found .0), (found .1, pre))
 
 returns : tie.Need-returns
 returns c =
@@ -68,10 +70,10 @@ returns-2 c =
 returns-3 : tie.Need-returns-3
 unfolding parse
 returns-3 c =
-    let call = c .before .before .before .before in
+    let call = c .before .before .before .before .before .before in
     let body = call .survey-body .ensures in
     record {
-      says = rw (head-told (call .before .before .before .before .before .before .before .before)) (body .says);
+      says = rw (head-told (call .before .before .before .before .before .before .before .before .before)) (body .says);
       inside = body .inside;
     }
 
@@ -88,6 +90,7 @@ survey-spec =
     returns
     survey-body-requires
     returns-2
+    (λ c. search needs)
     (λ c. search needs)
     (λ c. search needs)
     returns-3)
