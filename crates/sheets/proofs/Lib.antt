@@ -1,0 +1,10 @@
+pub mod Below
+pub mod TwoWays
+pub mod Sets
+pub mod Tables
+pub mod Reading
+pub mod Sites
+pub mod Together
+pub mod Unique
+pub mod Meaning
+pub mod Claims
