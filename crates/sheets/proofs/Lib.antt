@@ -8,3 +8,4 @@ pub mod Together
 pub mod Unique
 pub mod Meaning
 pub mod Claims
+pub mod Examples
