@@ -1,5 +1,5 @@
 /* A console's job: start a walk, draw pairs for two bonders, come back, make the sheet, write the trial file and read it back. Then a trial
- * of version 2, which has a bond time at each site as well; and a sheet that a customer brings, checked. */
+ * of version 2, which has a bond time at each site as well; and a sheet that was made elsewhere, checked. */
 #include "dinnowell.h"
 
 #include <inttypes.h>
@@ -28,7 +28,7 @@ static int read_back(const uint8_t *file, size_t length)
 }
 
 /* Checks a sheet of order 5 that was made elsewhere, and says whether it passes. */
-static void check_brought(const char *what, const uint8_t *sheet, size_t length)
+static void check_made(const char *what, const uint8_t *sheet, size_t length)
 {
     uint32_t status = dw_check_sheet(5, sheet, length);
     if (status == DW_SERVED)
@@ -83,13 +83,13 @@ int main(void)
         return 1;
 
     /* Row + column, and row + twice the column, modulo 5; then with one symbol wrong. */
-    uint8_t brought[2 * 5 * 5];
+    uint8_t made[2 * 5 * 5];
     for (int site = 0; site < 25; site++) {
-        brought[2 * site] = (uint8_t)((site / 5 + site % 5) % 5);
-        brought[2 * site + 1] = (uint8_t)((site / 5 + 2 * (site % 5)) % 5);
+        made[2 * site] = (uint8_t)((site / 5 + site % 5) % 5);
+        made[2 * site + 1] = (uint8_t)((site / 5 + 2 * (site % 5)) % 5);
     }
-    check_brought("a customer's sheet of order 5", brought, sizeof brought);
-    brought[0] = 3;
-    check_brought("the same with one power wrong", brought, sizeof brought);
+    check_made("a customer's sheet of order 5", made, sizeof made);
+    made[0] = 3;
+    check_made("the same with one power wrong", made, sizeof made);
     return 0;
 }

@@ -94,7 +94,7 @@ enum {
     DW_REFUSED_MARK_EMPTY = 19,     /* going back to an empty mark */
     DW_REFUSED_BONDER_RANGE = 20,   /* bonder above 7 */
     DW_REFUSED_BONDER_FULL = 21,    /* the bonder's count is DW_FULL_COUNT, and a pair is there to give */
-    /* Caused by who brings a sheet made elsewhere. */
+    /* Caused by who makes a sheet to check. */
     DW_REFUSED_ORDER_RANGE = 26,    /* order outside 3 to 64 */
     DW_REFUSED_SYMBOL_RANGE = 27,   /* symbol, anywhere in the sheet, not below the order */
     DW_REFUSED_NOT_GRAECO_LATIN = 28, /* symbol twice in a row or a column of one of the two squares, or pair of symbols at two sites */
@@ -107,7 +107,7 @@ enum {
     DW_BONDERS = 8,         /* how many bonders draw from a walk, numbered from 0 */
     DW_CHAIN_ROOM = 32,     /* how many numbers dw_chain must be given room for */
     DW_LEVELS_ROOM = 64,    /* how many levels dw_read must be given room for, in each of three lists */
-    DW_SHEET_ROOM = 8192,   /* bytes that hold a sheet of two codes of any degree, or any to check; degree n needs 2 * 4^n */
+    DW_SHEET_ROOM = 8192,   /* bytes that hold a sheet of two codes of any degree n, which needs 2 * 4^n, or one to check, 2 * order^2 */
     DW_SHEET3_ROOM = 12288, /* bytes that hold a sheet of three codes of any degree; degree n needs 3 * 4^n */
     DW_FILE_ROOM = 622,     /* bytes that hold any trial file; one of version 1 has at most 429 */
     DW_NAME_ROOM = 40,      /* bytes that hold any name, with no 0 behind it */
@@ -271,7 +271,7 @@ uint32_t dw_sheet3(uint32_t n, uint32_t f, uint32_t g, uint32_t h, uint8_t *shee
  * length is how many bytes sheet points to; those behind the first 2 * order * order are not looked at. Nothing is written, on any answer.
  * Served: the sheet passes; it is what is called a Graeco-Latin square. In each row and each column, each number below order comes once as
  * the first square's symbol and once as the second's, and each pair of a first and a second symbol has exactly one site. A sheet that
- * dw_sheet wrote passes at order 2^n; those of dw_sheet3 have another layout. At order 6 none passes, as there is no such square.
+ * dw_sheet wrote passes at order 2^n; those of dw_sheet3 have another layout.
  * Refused: ORDER_RANGE; SLICE_LENGTH if length is below 2 * order * order; SYMBOL_RANGE if any byte of the sheet is not below order,
  * whatever else is wrong with it; NOT_GRAECO_LATIN if it does not pass.
  */

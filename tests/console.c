@@ -1351,13 +1351,13 @@ static uint32_t check_lent(uint32_t order, const uint8_t *bytes, size_t length)
     return want;
 }
 
-static uint32_t check(const brought *s)
+static uint32_t check(const any_sheet *s)
 {
     return check_lent(s->order, s->bytes, size_of(s));
 }
 
 /* Ten changes to a good sheet, at random places. Each gives the number by which the sheet is then refused, 0 if it is as good as before. */
-static uint32_t rows_of_both(brought *s)
+static uint32_t rows_of_both(any_sheet *s)
 {
     uint32_t a = draw(s->order), b = draw(s->order);
     exchange_rows(s, a, b, 0);
@@ -1365,7 +1365,7 @@ static uint32_t rows_of_both(brought *s)
     return 0;
 }
 
-static uint32_t cols_of_both(brought *s)
+static uint32_t cols_of_both(any_sheet *s)
 {
     uint32_t a = draw(s->order), b = draw(s->order);
     exchange_cols(s, a, b, 0);
@@ -1373,7 +1373,7 @@ static uint32_t cols_of_both(brought *s)
     return 0;
 }
 
-static uint32_t new_parts(brought *s)
+static uint32_t new_parts(any_sheet *s)
 {
     uint32_t parts[4];
     order_of_four(draw(24), parts);
@@ -1382,7 +1382,7 @@ static uint32_t new_parts(brought *s)
 }
 
 /* The symbols of one square renamed. */
-static uint32_t new_names(brought *s)
+static uint32_t new_names(any_sheet *s)
 {
     uint8_t names[64];
     for (uint32_t i = 0; i < s->order; i++) {
@@ -1395,21 +1395,21 @@ static uint32_t new_names(brought *s)
     return 0;
 }
 
-static uint32_t rows_of_one(brought *s)
+static uint32_t rows_of_one(any_sheet *s)
 {
     uint32_t a = draw(s->order), b = draw(s->order);
     exchange_rows(s, a, b, draw(2));
     return a != b ? 28 : 0;
 }
 
-static uint32_t cols_of_one(brought *s)
+static uint32_t cols_of_one(any_sheet *s)
 {
     uint32_t a = draw(s->order), b = draw(s->order);
     exchange_cols(s, a, b, draw(2));
     return a != b ? 28 : 0;
 }
 
-static uint32_t two_sites(brought *s)
+static uint32_t two_sites(any_sheet *s)
 {
     uint32_t sites = s->order * s->order, a = 2 * draw(sites), b = 2 * draw(sites);
     exchange(&s->bytes[a], &s->bytes[b]);
@@ -1418,7 +1418,7 @@ static uint32_t two_sites(brought *s)
 }
 
 /* Two symbols of one square exchanged. */
-static uint32_t two_symbols(brought *s)
+static uint32_t two_symbols(any_sheet *s)
 {
     uint32_t sites = s->order * s->order, square = draw(2), a = 2 * draw(sites) + square, b = 2 * draw(sites) + square;
     exchange(&s->bytes[a], &s->bytes[b]);
@@ -1426,7 +1426,7 @@ static uint32_t two_symbols(brought *s)
 }
 
 /* One symbol changed to any, or to one that a set of 64 bits or a comparison may take for it. */
-static uint32_t one_symbol(brought *s)
+static uint32_t one_symbol(any_sheet *s)
 {
     uint8_t *place = &s->bytes[draw((uint32_t)size_of(s))], right = *place;
     const uint32_t wrong[8] = { draw(256), draw(s->order), right + 64u, right + 128u, right + 192u, s->order - 1, s->order, 255 };
@@ -1435,7 +1435,7 @@ static uint32_t one_symbol(brought *s)
 }
 
 /* One symbol of a square called, wherever it stands, by a number that is not below the order. */
-static uint32_t one_name(brought *s)
+static uint32_t one_name(any_sheet *s)
 {
     uint32_t right = draw(s->order), order = s->order;
     const uint32_t wrong[3] = { order, 255, order + draw(256 - order) };
@@ -1446,14 +1446,14 @@ static uint32_t one_name(brought *s)
 }
 
 /* Those that leave a good sheet good take symbols for places, so they come before the others. */
-static uint32_t (*const changes[])(brought *) = { new_parts, rows_of_both, cols_of_both, new_names, rows_of_one, cols_of_one, two_sites,
+static uint32_t (*const changes[])(any_sheet *) = { new_parts, rows_of_both, cols_of_both, new_names, rows_of_one, cols_of_one, two_sites,
                                                   two_symbols, one_name, one_symbol };
 enum { HARMLESS = 4, CHANGES = sizeof changes / sizeof changes[0] };
 
 /* A good sheet of an order, made once; at order 6, two Latin squares. */
-static brought sheet_of(uint32_t order)
+static any_sheet sheet_of(uint32_t order)
 {
-    static brought made[65];
+    static any_sheet made[65];
     if (made[order].order == 0)
         made[order] = order == 6 ? linear(6, 1, 1, 1, 5) : good(order);
     return made[order];
@@ -1470,7 +1470,7 @@ static uint32_t some_outside(uint32_t order)
 static void try_check_sheet(void)
 {
     uint32_t order = 3 + draw(draw(16) ? 14 : 62), said = draw(16) ? order : draw(2) ? some_outside(order) : 3 + draw(62);
-    brought s = sheet_of(order);
+    any_sheet s = sheet_of(order);
     for (uint32_t i = 0; i < CHANGES; i++)
         if (draw(i < HARMLESS ? 2 : 8) == 0)
             changes[i](&s);
@@ -1481,17 +1481,17 @@ static void try_check_sheet(void)
 }
 
 /* A sheet that the library wrote. */
-static brought ours(uint32_t n)
+static any_sheet ours(uint32_t n)
 {
-    brought s = empty(1u << n);
+    any_sheet s = empty(1u << n);
     uint32_t f, g;
     ref_pair(n, draw64() % ref_length(n), &f, &g);
-    count(dw_sheet(n, f, g, s.bytes, size_of(&s)), 0, "brought sheets: ours");
+    count(dw_sheet(n, f, g, s.bytes, size_of(&s)), 0, "good sheets: ours");
     return s;
 }
 
 /* A job on good sheets: one of every order but 6, others by differences and by products, and ours of every degree. */
-static void on_good_sheets(void (*job)(brought s))
+static void on_good_sheets(void (*job)(any_sheet s))
 {
     for (uint32_t order = 3; order <= 64; order++)
         if (order != 6)
@@ -1508,23 +1508,23 @@ static void on_good_sheets(void (*job)(brought s))
 }
 
 /* A good sheet passes in all orders of its parts, its squares exchanged and its rows for columns among them. */
-static void in_all_parts(brought s)
+static void in_all_parts(any_sheet s)
 {
     for (uint32_t i = 0; i < 24; i++) {
         uint32_t parts[4];
         order_of_four(i, parts);
-        brought t = conjugate(s, parts);
-        expect(check(&t) == 0, "brought sheets: served");
+        any_sheet t = conjugate(s, parts);
+        expect(check(&t) == 0, "good sheets: served");
     }
 }
 
-static void brought_sheets(void)
+static void good_sheets(void)
 {
     on_good_sheets(in_all_parts);
 }
 
 /* A sheet with every value at every byte. */
-static void at_every_byte(brought s)
+static void at_every_byte(any_sheet s)
 {
     for (size_t at = 0; at < size_of(&s); at++) {
         uint8_t right = s.bytes[at];
@@ -1537,10 +1537,10 @@ static void at_every_byte(brought s)
 }
 
 /* Each change alone, several times, and the last one, of one symbol, many times. */
-static void after_each_change(brought s)
+static void after_each_change(any_sheet s)
 {
     for (uint32_t i = 0; i < 5 * CHANGES + 40; i++) {
-        brought t = s;
+        any_sheet t = s;
         uint32_t want = changes[i < 5 * CHANGES ? i % CHANGES : CHANGES - 1](&t);
         expect(check(&t) == want, "changed sheets: change");
     }
@@ -1557,7 +1557,7 @@ static void changed_sheets(void)
 }
 
 /* A sheet that fails in one of the five ways alone, and each sheet that other parts make of it: all five ways come. */
-static void in_one_way(brought s)
+static void in_one_way(any_sheet s)
 {
     static const uint32_t two[5][2] = { { 0, 2 }, { 0, 3 }, { 1, 2 }, { 1, 3 }, { 2, 3 } };
     uint32_t way = (uint32_t)ref_degree(ref_faults(s.order, s.bytes)), met = 0;
@@ -1566,7 +1566,7 @@ static void in_one_way(brought s)
         order_of_four(i, parts);
         if ((parts[0] == two[way][0] && parts[1] == two[way][1]) || (parts[0] == two[way][1] && parts[1] == two[way][0]))
             continue;
-        brought t = conjugate(s, parts);
+        any_sheet t = conjugate(s, parts);
         uint32_t faults = ref_faults(t.order, t.bytes);
         expect(check(&t) == 28 && (faults & (faults - 1)) == 0, "ways to fail: one alone");
         met |= faults;
@@ -1575,16 +1575,16 @@ static void in_one_way(brought s)
 }
 
 /* The least that can fail: two columns of the second square. */
-static void in_two_columns(brought s)
+static void in_two_columns(any_sheet s)
 {
     for (uint32_t i = 0; i < 2; i++) {
-        brought t = s;
+        any_sheet t = s;
         uint32_t a = draw(s.order), b = (a + 1 + draw(s.order - 1)) % s.order;
         exchange_cycle(&t, a, b, draw(s.order));
         uint32_t faults = ref_faults(t.order, t.bytes);
         expect(faults == 0 || faults == 8, "ways to fail: columns");
         if (faults == 0)
-            expect(check(&t) == 0, "ways to fail: whole columns");
+            expect(check(&t) == 0, "ways to fail: none");
         else
             in_one_way(t);
     }
@@ -1597,7 +1597,7 @@ static void of_two_codes(void)
         for (uint32_t f = (1u << n) + 1; f < 2u << n; f += 2)
             for (uint32_t g = (1u << n) + 1; g < 2u << n; g += 2) {
                 const uint32_t codes[2] = { f, g };
-                brought s = empty(1u << n);
+                any_sheet s = empty(1u << n);
                 if (ref_coprime(n, f, g) == 0) {
                     count(dw_sheet(n, f, g, s.bytes, size_of(&s)), 0, "ways to fail: ours");
                     expect(check(&s) == 0, "ways to fail: coprime");
@@ -1609,7 +1609,7 @@ static void of_two_codes(void)
 }
 
 /* A random Latin square of order 6, by random rows until one fits below those before it. */
-static void some_latin(brought *s, uint32_t square)
+static void some_latin(any_sheet *s, uint32_t square)
 {
     for (uint32_t row = 0, fits; row < 6; row += fits) {
         fits = 1;
@@ -1627,7 +1627,7 @@ static void some_latin(brought *s, uint32_t square)
 static void order_six(void)
 {
     static const char near[] = "405124350213" "150450412332" "534205143021" "342543521100" "013312204554" "221031035445";
-    brought s = empty(6);
+    any_sheet s = empty(6);
     for (uint32_t i = 0; i < 2000; i++) {
         for (size_t k = 0; k < size_of(&s); k++)
             s.bytes[k] = (uint8_t)draw(6);
@@ -1656,7 +1656,7 @@ static void ways_to_fail(void)
 }
 
 /* A good sheet in memory that is too short, and with bytes behind it, which are not looked at. */
-static void of_many_lengths(brought s)
+static void of_many_lengths(any_sheet s)
 {
     size_t size = size_of(&s);
     const size_t less[] = { 0, 1, s.order, size / 4, size / 2, size - s.order, size - 2, size - 1 };
@@ -1671,8 +1671,9 @@ static void of_many_lengths(brought s)
     }
 }
 
-/* A sheet for an order that is refused: one that is good at that order, if it fits, or at its low bits; at order 2, two equal squares. */
-static brought sheet_outside(uint32_t order)
+/* A sheet for an order that is refused: at 1 and 65 one that is good at that order, at 2 two equal squares, else one of its low bits' order
+ * or of 64. */
+static any_sheet sheet_outside(uint32_t order)
 {
     uint32_t low = order % 256;
     if (order == 2)
@@ -1687,7 +1688,7 @@ static void of_other_orders(void)
                                        65536 + 64, (1u << 24) + 5, (1u << 31) + 5, UINT32_MAX - 250, UINT32_MAX };
     for (size_t i = 0; i < sizeof orders / sizeof orders[0]; i++)
         for (int kind = 0; kind < 3; kind++) {
-            brought s = sheet_outside(orders[i]);
+            any_sheet s = sheet_outside(orders[i]);
             const size_t size = size_of(&s), lengths[] = { sizeof s.bytes, size, size - 1, 1, 0 };
             s.bytes[0] = kind == 1 ? 255 : s.bytes[0];
             memset(s.bytes, 0, kind == 2 ? size : 0);
@@ -1698,12 +1699,12 @@ static void of_other_orders(void)
 
 /* A good sheet with every choice of the four causes, of which the one that is looked for first refuses. The symbol that is not below the
  * order is at one byte, and the other failure in the last row or the first, whichever is farther from it. */
-static void of_many_causes(brought s, uint32_t at, uint32_t value)
+static void of_many_causes(any_sheet s, uint32_t at, uint32_t value)
 {
     static const uint32_t numbers[4] = { 26, 4, 27, 28 };
     uint32_t size = (uint32_t)size_of(&s), line = at < size / 2 ? size - 2 * s.order : 0;
     for (uint32_t causes = 0; causes < 16; causes++) {
-        brought t = s;
+        any_sheet t = s;
         uint32_t order = causes & 1 ? some_outside(s.order) : s.order, want = 0;
         if (causes & 8)
             exchange(&t.bytes[line], &t.bytes[line + 2]);
@@ -1852,7 +1853,7 @@ int main(int argc, char **argv)
     part("marks at the end", marks_at_the_end, 1, 18, 19, bit(3) | spent);
     part("full counts", full_counts, 1, 18, 21, bit(3) | spent);
     part("wrong pairs", wrong_pairs, 1, 18, 21, spent);
-    part("brought sheets", brought_sheets, 1, 0, 0, 0);
+    part("good sheets", good_sheets, 1, 0, 0, 0);
     part("changed sheets", changed_sheets, 1, 27, 28, 0);
     part("ways to fail", ways_to_fail, 1, 28, 28, 0);
     part("orders and lengths", orders_and_lengths, 1, 26, 28, four);

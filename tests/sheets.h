@@ -6,40 +6,40 @@
 #include "reference.h"
 
 /* A sheet and its order; there is room for one of order 66, and for bytes behind it. */
-typedef struct brought {
+typedef struct any_sheet {
     uint32_t order;
     uint8_t bytes[9216];
-} brought;
+} any_sheet;
 
-static size_t size_of(const brought *s)
+static size_t size_of(const any_sheet *s)
 {
     return 2 * (size_t)s->order * s->order;
 }
 
 /* The symbol of square 0 or 1 at a site. */
-static uint8_t *symbol(brought *s, uint32_t row, uint32_t col, uint32_t square)
+static uint8_t *symbol(any_sheet *s, uint32_t row, uint32_t col, uint32_t square)
 {
     return &s->bytes[2 * (row * s->order + col) + square];
 }
 
-static void put(brought *s, uint32_t row, uint32_t col, uint32_t first, uint32_t second)
+static void put(any_sheet *s, uint32_t row, uint32_t col, uint32_t first, uint32_t second)
 {
     *symbol(s, row, col, 0) = (uint8_t)first;
     *symbol(s, row, col, 1) = (uint8_t)second;
 }
 
-static brought empty(uint32_t order)
+static any_sheet empty(uint32_t order)
 {
-    brought s;
+    any_sheet s;
     memset(&s, 0, sizeof s);
     s.order = order;
     return s;
 }
 
 /* The sheet of a i + b j and c i + d j, modulo its order. With 1, 1, 1, 2 it is good if the order is odd. */
-static brought linear(uint32_t order, uint32_t a, uint32_t b, uint32_t c, uint32_t d)
+static any_sheet linear(uint32_t order, uint32_t a, uint32_t b, uint32_t c, uint32_t d)
 {
-    brought s = empty(order);
+    any_sheet s = empty(order);
     for (uint32_t i = 0; i < order; i++)
         for (uint32_t j = 0; j < order; j++)
             put(&s, i, j, (a * i + b * j) % order, (c * i + d * j) % order);
@@ -47,10 +47,10 @@ static brought linear(uint32_t order, uint32_t a, uint32_t b, uint32_t c, uint32
 }
 
 /* The sheet of i + j and x i + j in the field of 2^n elements. */
-static brought field(uint32_t n)
+static any_sheet field(uint32_t n)
 {
     static const uint32_t moduli[7] = { 0, 0, 7, 11, 19, 37, 67 };
-    brought s = empty(1u << n);
+    any_sheet s = empty(1u << n);
     for (uint32_t i = 0; i < s.order; i++)
         for (uint32_t j = 0; j < s.order; j++) {
             uint32_t times_x;
@@ -61,9 +61,9 @@ static brought field(uint32_t n)
 }
 
 /* The direct product: every row, column and symbol is one of a with one of b. */
-static brought product(brought a, brought b)
+static any_sheet product(any_sheet a, any_sheet b)
 {
-    brought s = empty(a.order * b.order);
+    any_sheet s = empty(a.order * b.order);
     for (uint32_t row = 0; row < s.order; row++)
         for (uint32_t col = 0; col < s.order; col++) {
             const uint8_t *of_a = symbol(&a, row / b.order, col / b.order, 0), *of_b = symbol(&b, row % b.order, col % b.order, 0);
@@ -81,7 +81,7 @@ typedef struct differences {
 
 /* A site is four numbers: its row, its column and its symbols. From one four come three more by exchanges, and from each of these u by
  * adding every residue to its residues. */
-static void put_fours(brought *s, uint32_t u, uint32_t a, uint32_t b, uint32_t c, uint32_t d)
+static void put_fours(any_sheet *s, uint32_t u, uint32_t a, uint32_t b, uint32_t c, uint32_t d)
 {
     const uint32_t fours[4][4] = { { a, b, c, d }, { b, a, d, c }, { c, d, a, b }, { d, c, b, a } };
     for (uint32_t i = 0; i < 4 * u; i++) {
@@ -92,15 +92,15 @@ static void put_fours(brought *s, uint32_t u, uint32_t a, uint32_t b, uint32_t c
     }
 }
 
-static brought good(uint32_t order);
+static any_sheet good(uint32_t order);
 
 /* The sheet: at any two places its fours have each difference of residues once, and each extra number once beside a residue. The extra
  * numbers among themselves have a sheet of their own. */
-static brought by_differences(const differences *d)
+static any_sheet by_differences(const differences *d)
 {
     uint32_t u = 2 * d->extra + 1 + 4 * d->whole;
     const uint8_t *next = d->numbers;
-    brought s = empty(u + d->extra), corner = good(d->extra);
+    any_sheet s = empty(u + d->extra), corner = good(d->extra);
     for (uint32_t i = 0; i < u; i++)
         put(&s, i, i, i, i);
     for (uint32_t i = 0; i < d->whole; i++, next += 3)
@@ -114,7 +114,7 @@ static brought by_differences(const differences *d)
 }
 
 /* That of Bose, Shrikhande and Parker, of order 3m + 1 where order m has a sheet: the twos are i and -i. */
-static brought of_bose(uint32_t m)
+static any_sheet of_bose(uint32_t m)
 {
     differences d = { m, 0, { 0 } };
     for (uint32_t i = 1; i <= m; i++) {
@@ -140,7 +140,7 @@ static const differences found[] = {
 };
 
 /* A good sheet of any order from 3 to 64 but 6: cyclic, of a field, a product of these, or by differences. */
-static brought good(uint32_t order)
+static any_sheet good(uint32_t order)
 {
     uint32_t n = (uint32_t)ref_degree(order & (0 - order));
     if (n == 0)
@@ -155,9 +155,9 @@ static brought good(uint32_t order)
 
 /* The sheet with other parts: row, column, first symbol and second symbol of a site become those that the four numbers name. A good sheet
  * stays good. */
-static brought conjugate(brought s, const uint32_t parts[4])
+static any_sheet conjugate(any_sheet s, const uint32_t parts[4])
 {
-    brought t = empty(s.order);
+    any_sheet t = empty(s.order);
     for (uint32_t row = 0; row < s.order; row++)
         for (uint32_t col = 0; col < s.order; col++) {
             const uint32_t four[4] = { row, col, *symbol(&s, row, col, 0), *symbol(&s, row, col, 1) };
@@ -186,13 +186,13 @@ static void exchange(uint8_t *a, uint8_t *b)
 }
 
 /* Two rows, or two columns, exchanged in one of the squares. */
-static void exchange_rows(brought *s, uint32_t a, uint32_t b, uint32_t square)
+static void exchange_rows(any_sheet *s, uint32_t a, uint32_t b, uint32_t square)
 {
     for (uint32_t i = 0; i < s->order; i++)
         exchange(symbol(s, a, i, square), symbol(s, b, i, square));
 }
 
-static void exchange_cols(brought *s, uint32_t a, uint32_t b, uint32_t square)
+static void exchange_cols(any_sheet *s, uint32_t a, uint32_t b, uint32_t square)
 {
     for (uint32_t i = 0; i < s->order; i++)
         exchange(symbol(s, i, a, square), symbol(s, i, b, square));
@@ -200,7 +200,7 @@ static void exchange_cols(brought *s, uint32_t a, uint32_t b, uint32_t square)
 
 /* Two columns exchanged in both squares, but only at as few rows, from a given one on, as leave each column the first square's symbols that
  * it had. Then nothing can fail but the columns of the second square. */
-static void exchange_cycle(brought *s, uint32_t a, uint32_t b, uint32_t row)
+static void exchange_cycle(any_sheet *s, uint32_t a, uint32_t b, uint32_t row)
 {
     uint8_t lost = *symbol(s, row, a, 0), came;
     do {

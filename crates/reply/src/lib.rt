@@ -28,7 +28,7 @@ pub enum Refusal {
     MarkEmpty,
     BonderRange,
     BonderFull,
-    // Caused by who makes a sheet elsewhere.
+    // Caused by who makes a sheet to check.
     OrderRange,
     SymbolRange,
     NotGraecoLatin,

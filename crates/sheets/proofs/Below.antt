@@ -97,6 +97,18 @@ module _ (test : ℕ → Bool) where
       last-or h (λ (same : i ≡ k). let t : test k ≡ true = sym (ap test same) ∙ e in rw t (omega arith))
       (λ (l : i < k). omega (arith, count-some k i l e))
 
+  -- where some are counted, one passes
+  pub count-exists : (k : ℕ) → 1 ≤ countBelow k test → (i : ℕ) × (i < k) × (test i ≡ true)
+  count-exists zero some = absurd (omega arith)
+  count-exists (suc k) some = go (test k) refl (count-exists k)
+    where
+      go : (b : Bool) → test k ≡ b → (1 ≤ countBelow k test → (i : ℕ) × (i < k) × (test i ≡ true)) → (i : ℕ) × (i < suc k) × (test i ≡ true)
+      go true t before = (k, omega arith, t)
+      go false t before =
+          let less : 1 ≤ countBelow k test + 0 = rw t at some in
+          let (i, l, e) = before (omega arith) in
+          (i, omega arith, e)
+
   -- where none passes, none is counted
   pub count-none : (k : ℕ) → ((i : ℕ) → i < k → test i ≡ false) → countBelow k test ≡ 0
   count-none zero none = refl

@@ -22,9 +22,9 @@ use Rattle.squares.specs.Claims.{SquaresShown}
 use Rattle.squares.proofs.Agreeing.{Agree, latin-same, orthogonal-same}
 use Rattle.squares.proofs.Sheets.{four-pow, sheetOf-length}
 use Rattle.squares.proofs.Claims.{sheet-squares}
-use Rattle.sheets.specs.Counting.{latin, orthogonal, graecoLatin}
+use Rattle.sheets.specs.Counting.{isLatin, isOrthogonal, isGraecoLatin}
 use Rattle.sheets.specs.Replies.{sheetSize, checkCauses, checkSheetReply}
-use Rattle.sheets.specs.Claims.{GoodSheet, PassClaim, BehindClaim, WrittenClaim}
+use Rattle.sheets.specs.Claims.{GraecoLatinSheet, PassClaim, BehindClaim, WrittenClaim}
 use Rattle.sheets.proofs.Below.{same-truth, both-true, all-true, all-same}
 use Rattle.sheets.proofs.Meaning.{latin-means, latin-below, orthogonal-means}
 
@@ -58,12 +58,12 @@ passes-good N bytes = (passing, good)
     second : Square
     second = shown 2 N 1 bytes
 
-    passing : checkSheetReply N bytes ≡ served [] → GoodSheet N bytes
+    passing : checkSheetReply N bytes ≡ served [] → GraecoLatinSheet N bytes
     passing e =
         let (in-range, (enough, (symbols, (together, _)))) = none-applies (checkCauses N bytes) [] [] e in
         let (low, high) = within 3 64 in-range in
-        let (both, pairs) = both-true (latin N first && latin N second) (orthogonal N first second) (not-false _ together) in
-        let (one, other) = both-true (latin N first) (latin N second) both in
+        let (both, pairs) = both-true (isLatin N first && isLatin N second) (isOrthogonal N first second) (not-false _ together) in
+        let (one, other) = both-true (isLatin N first) (isLatin N second) both in
         record {
           low = low;
           high = high;
@@ -73,7 +73,7 @@ passes-good N bytes = (passing, good)
           orthogonal = orthogonal-means N first second .0 pairs;
         }
 
-    good : GoodSheet N bytes → checkSheetReply N bytes ≡ served []
+    good : GraecoLatinSheet N bytes → checkSheetReply N bytes ≡ served []
     good g = none-refuses (checkCauses N bytes) (served []) (
       inside 3 64 (g .low) (g .high),
       (
@@ -92,10 +92,10 @@ passes-good N bytes = (passing, good)
 
 -- squares with the same symbols pass together
 together-same : (N : ℕ) {first second first′ second′ : Square} → Agree N first first′ → Agree N second second′
-    → graecoLatin N first second ≡ true → graecoLatin N first′ second′ ≡ true
+    → isGraecoLatin N first second ≡ true → isGraecoLatin N first′ second′ ≡ true
 together-same N {first} {second} {first′} {second′} same same′ e =
-    let (both, pairs) = both-true (latin N first && latin N second) (orthogonal N first second) e in
-    let (one, other) = both-true (latin N first) (latin N second) both in
+    let (both, pairs) = both-true (isLatin N first && isLatin N second) (isOrthogonal N first second) e in
+    let (one, other) = both-true (isLatin N first) (isLatin N second) both in
     ap₂ _&&_ (ap₂ _&&_ (latin-means N first′ .1 (latin-same N same (latin-means N first .0 one)))
     (latin-means N second′ .1 (latin-same N same′ (latin-means N second .0 other))))
     (orthogonal-means N first′ second′ .1 (orthogonal-same N same same′ (orthogonal-means N first second .0 pairs)))
@@ -131,7 +131,7 @@ behind-unread N bytes = go (decLt (length bytes) (sheetSize N))
           le-ltb (length bytes) (sheetSize N) enough,
           le-ltb (sheetSize N) (sheetSize N) (le-refl (sheetSize N)),
           all-same (λ i. ltb (getD bytes i 0) N) (λ i. ltb (getD sheet i 0) N) (sheetSize N) (λ i h. ap (λ (v : ℕ). ltb v N) (symbol i h)),
-          same-truth (graecoLatin N (shown 2 N 0 bytes) (shown 2 N 1 bytes)) (graecoLatin N (shown 2 N 0 sheet) (shown 2 N 1 sheet))
+          same-truth (isGraecoLatin N (shown 2 N 0 bytes) (shown 2 N 1 bytes)) (isGraecoLatin N (shown 2 N 0 sheet) (shown 2 N 1 sheet))
               (together-same N (agree 0 zero-two) (agree 1 two)) (together-same N (back 0 zero-two) (back 1 two)),
         )
 

@@ -29,9 +29,9 @@ pub fails : map (checkSheetReply 5)
 unfolding checkSheetReply outside sheet shown
 fails = refl
 
--- 26, 4 and 27 come before what is wrong besides
-pub refusals : (checkSheetReply 2 [] ∷ checkSheetReply 65 [] ∷ checkSheetReply 5 (take 49 (set (linear 5 1 1 1 2) 0 5))
+-- 26, 4 and 27 come before what is wrong besides; a byte that is missing is not taken for 0
+pub refusals : (checkSheetReply 2 [] ∷ checkSheetReply 65 [] ∷ checkSheetReply 3 (take 17 (linear 3 1 1 1 2)) ∷ checkSheetReply 5 (take 49 (set (linear 5 1 1 1 2) 0 5))
     ∷ checkSheetReply 5 (set (linear 5 1 1 1 1) 49 5) ∷ [])
-    ≡ refused 26 ∷ refused 26 ∷ refused 4 ∷ refused 27 ∷ []
+    ≡ refused 26 ∷ refused 26 ∷ refused 4 ∷ refused 4 ∷ refused 27 ∷ []
 unfolding checkSheetReply outside sheet shown
 refusals = refl

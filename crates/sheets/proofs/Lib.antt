@@ -2,8 +2,9 @@ pub mod Below
 pub mod TwoWays
 pub mod Sets
 pub mod Tables
+pub mod Items
 pub mod Reading
-pub mod Sites
+pub mod Complete
 pub mod Together
 pub mod Unique
 pub mod Meaning

@@ -1,4 +1,4 @@
--- What the tests by counting mean: `latin` passes exactly the Latin squares, `orthogonal` the orthogonal ones, and what passes shows no
+-- What the tests by counting mean: `isLatin` passes exactly the Latin squares, `isOrthogonal` the orthogonal ones, and what passes shows no
 -- symbol but those below N.
 use mathlib.Core.Bool.{Bool, true, _&&_}
 use mathlib.Core.Logic.{_↔_, Iff·symm}
@@ -9,7 +9,7 @@ use lib.Dec.{eqb}
 use borrow.Author.Tests.{eqb-true, eq-eqb}
 use Rattle.squares.specs.Squares.{Square, ExactlyOne, Latin, Site, Orthogonal}
 use Rattle.squares.proofs.Agreeing.{exactly-one-same}
-use Rattle.sheets.specs.Counting.{countBelow, allBelow, runsOnce, latin, orthogonal}
+use Rattle.sheets.specs.Counting.{countBelow, allBelow, isPermutation, isLatin, isOrthogonal}
 use Rattle.sheets.proofs.Below.{both-true, all-at, all-true}
 use Rattle.sheets.proofs.TwoWays.{line-below}
 use Rattle.sheets.proofs.Unique.{count-unique, sites-unique}
@@ -21,43 +21,43 @@ module _ (N : ℕ) (h : ℕ → ℕ) where
   abbrev counted : ℕ → Bool
   counted symbol = eqb (countBelow N (λ i. eqb (h i) symbol)) 1
 
-  runs-unique : runsOnce N h ≡ true → (symbol : ℕ) → symbol < N → ExactlyOne (λ (i : ℕ). (i < N) × (h i ≡ symbol))
-  runs-unique e symbol l =
+  permutation-unique : isPermutation N h ≡ true → (symbol : ℕ) → symbol < N → ExactlyOne (λ (i : ℕ). (i < N) × (h i ≡ symbol))
+  permutation-unique e symbol l =
       exactly-one-same (same-symbol symbol)
       (count-unique (λ i. eqb (h i) symbol) N .0 (eqb-true (countBelow N (λ i. eqb (h i) symbol)) 1 (all-at counted N e symbol l)))
 
-  unique-runs : ((symbol : ℕ) → symbol < N → ExactlyOne (λ (i : ℕ). (i < N) × (h i ≡ symbol))) → runsOnce N h ≡ true
-  unique-runs one =
+  unique-permutation : ((symbol : ℕ) → symbol < N → ExactlyOne (λ (i : ℕ). (i < N) × (h i ≡ symbol))) → isPermutation N h ≡ true
+  unique-permutation one =
       all-true counted N
       (λ symbol l. eq-eqb (countBelow N (λ i. eqb (h i) symbol)) 1
       (count-unique (λ i. eqb (h i) symbol) N .1 (exactly-one-same (λ i. Iff·symm (same-symbol symbol i)) (one symbol l))))
 
   -- no other symbol
-  runs-below : runsOnce N h ≡ true → (i : ℕ) → i < N → h i < N
-  runs-below e = line-below N h (λ symbol l. eqb-true (countBelow N (λ i. eqb (h i) symbol)) 1 (all-at counted N e symbol l))
+  permutation-below : isPermutation N h ≡ true → (i : ℕ) → i < N → h i < N
+  permutation-below e = line-below N h (λ symbol l. eqb-true (countBelow N (λ i. eqb (h i) symbol)) 1 (all-at counted N e symbol l))
 
 module _ (N : ℕ) (square : Square) where
-  abbrev row-runs : ℕ → Bool
-  row-runs row = runsOnce N (λ col. square row col)
+  abbrev row-permutes : ℕ → Bool
+  row-permutes row = isPermutation N (λ col. square row col)
 
-  abbrev column-runs : ℕ → Bool
-  column-runs col = runsOnce N (λ row. square row col)
+  abbrev column-permutes : ℕ → Bool
+  column-permutes col = isPermutation N (λ row. square row col)
 
-  pub latin-means : (latin N square ≡ true) ↔ Latin N square
+  pub latin-means : (isLatin N square ≡ true) ↔ Latin N square
   latin-means = (
     (λ e.
-        let (rows, columns) = both-true (allBelow N row-runs) (allBelow N column-runs) e in
+        let (rows, columns) = both-true (allBelow N row-permutes) (allBelow N column-permutes) e in
         record {
-          rows = λ row symbol hr hs. runs-unique N (square row) (all-at row-runs N rows row hr) symbol hs;
-          columns = λ col symbol hc hs. runs-unique N (λ row. square row col) (all-at column-runs N columns col hc) symbol hs;
+          rows = λ row symbol hr hs. permutation-unique N (square row) (all-at row-permutes N rows row hr) symbol hs;
+          columns = λ col symbol hc hs. permutation-unique N (λ row. square row col) (all-at column-permutes N columns col hc) symbol hs;
         }),
     (λ l.
-        ap₂ _&&_ (all-true row-runs N (λ row hr. unique-runs N (square row) (λ symbol hs. l .rows row symbol hr hs)))
-        (all-true column-runs N (λ col hc. unique-runs N (λ row. square row col) (λ symbol hs. l .columns col symbol hc hs)))),
+        ap₂ _&&_ (all-true row-permutes N (λ row hr. unique-permutation N (square row) (λ symbol hs. l .rows row symbol hr hs)))
+        (all-true column-permutes N (λ col hc. unique-permutation N (λ row. square row col) (λ symbol hs. l .columns col symbol hc hs)))),
   )
 
   pub latin-below : Latin N square → (row col : ℕ) → row < N → col < N → square row col < N
-  latin-below l row col hr hc = runs-below N (square row) (unique-runs N (square row) (λ symbol hs. l .rows row symbol hr hs)) col hc
+  latin-below l row col hr hc = permutation-below N (square row) (unique-permutation N (square row) (λ symbol hs. l .rows row symbol hr hs)) col hc
 
 module _ (N : ℕ) (first second : Square) where
   -- site number s shows the pair (a, b)
@@ -76,7 +76,7 @@ module _ (N : ℕ) (first second : Square) where
     (λ (l, (ea, eb)). (l, ap₂ _&&_ (eq-eqb _ a ea) (eq-eqb _ b eb))),
   )
 
-  pub orthogonal-means : (orthogonal N first second ≡ true) ↔ Orthogonal N first second
+  pub orthogonal-means : (isOrthogonal N first second ≡ true) ↔ Orthogonal N first second
   orthogonal-means = (
     (λ e a b ha hb.
         exactly-one-same (λ (site : Site). ((λ (on, (ea, eb)). (on, ea, eb)), (λ (on, ea, eb). (on, (ea, eb)))))

@@ -1,17 +1,18 @@
 -- What a legible sheet gives: the bytes of a site are there and are symbols below 64, so that they can be put into sets of 64 bits.
-use mathlib.Core.Bool.{true}
+use mathlib.Core.Bool.{true, _&&_}
 use mathlib.Core.List.{List}
 use mathlib.Core.Path.{_≡_, refl, sym, ap, ap₂, _∙_}
-use Prim.Native.Nat.{ℕ, _+_, _*_, _%_, _^_, _≤_, _<_}
+use Prim.Native.Nat.{ℕ, suc, _+_, _-_, _*_, _/_, _%_, _^_, _≤_, _<_}
 use native.Mathlib.Nat.{add-zero, mul-le-mul}
 use native.Mathlib.Numerals.{add-one}
 use native.Mathlib.Omega.{arith}
 use lib.Arith.{digits-lt}
 use lib.Bits.{bitOr}
-use lib.ListN.{length, getD, set}
-use Rattle.poly.proofs.Shifts.{one-shl}
+use lib.Dec.{eqb}
+use lib.ListN.{length, getD}
 use Rattle.squares.specs.Sheets.{shown}
-use Rattle.sheets.specs.Inner.{Legible, metBelow, pairsPut}
+use Rattle.sheets.specs.Inner.{InRange, Singles, rowPermutes, byTurns, metBelow, added, pairsPut}
+use Rattle.sheets.proofs.Sets.{line-full}
 
 -- The two bytes of a site.
 pub record Readable (N : ℕ) (bytes : List ℕ) (row col : ℕ) : Type 0 where
@@ -24,7 +25,7 @@ pub record Readable (N : ℕ) (bytes : List ℕ) (row col : ℕ) : Type 0 where
 pub few-sites : {N : ℕ} → N ≤ 64 → N * N ≤ 4096
 few-sites few = mul-le-mul few few
 
-module _ {N : ℕ} {bytes : List ℕ} (legible : Legible N bytes) where
+module _ {N : ℕ} {bytes : List ℕ} (legible : InRange N bytes) where
   pub readable : {row col : ℕ} → row < N → col < N → Readable N bytes row col
   readable {row} {col} hr hc =
       let site : row * N + col < N * N = digits-lt hr hc in
@@ -52,13 +53,43 @@ module _ (N : ℕ) (bytes : List ℕ) (row col : ℕ) where
   unfolding shown
   second-shown = refl
 
--- one symbol more in a set
-pub met-next : (h : ℕ → ℕ) (k : ℕ) {set symbol : ℕ} → set ≡ metBelow k (λ i. true) h → symbol ≡ h k → symbol < 64
-    → bitOr set (1 * 2 ^ symbol % 2 ^ 64) ≡ metBelow (k + 1) (λ i. true) h
-met-next h k {set} {symbol} met e lt = rw (add-one k) (ap₂ bitOr met (one-shl 64 symbol lt ∙ ap (λ (s : ℕ). 2 ^ s) e))
+-- the sets of single symbols
+pub single : {N symbol shown : ℕ} {sets : List ℕ} → Singles N sets → symbol < N → symbol ≡ shown → getD sets symbol 0 ≡ 2 ^ shown
+single {symbol = symbol} singles h e = singles .at symbol h ∙ ap (λ (s : ℕ). 2 ^ s) e
 
--- one pair more in a table
-pub put-next : (empty : List ℕ) (first second : ℕ → ℕ) (k : ℕ) {table : List ℕ} {f g : ℕ} → table ≡ pairsPut empty k first second
-    → f ≡ first k → g ≡ second k → g < 64
-    → set table f (bitOr (getD table f 0) (1 * 2 ^ g % 2 ^ 64)) ≡ pairsPut empty (k + 1) first second
-put-next empty first second k {table} {f} {g} is ef eg lt = rw (one-shl 64 g lt, add-one k, ← ef, ← eg, ← is)
+-- the two rows by turns
+module _ (N : ℕ) (bytes : List ℕ) (k row next col : ℕ) where
+  pub turn-one : byTurns N bytes k row next (2 * col) ≡ shown 2 N k bytes row col
+  turn-one =
+      let even : 2 * col % 2 ≡ 0 = omega arith in
+      let half : 2 * col / 2 ≡ col = omega arith in
+      rw (even, half)
+
+  pub turn-other : byTurns N bytes k row next (2 * col + 1) ≡ shown 2 N k bytes next col
+  turn-other =
+      let odd : (2 * col + 1) % 2 ≡ 1 = omega arith in
+      let half : (2 * col + 1) / 2 ≡ col = omega arith in
+      rw (odd, half)
+
+-- one symbol more in a set
+pub met-next : (h : ℕ → ℕ) (k : ℕ) {set one : ℕ} → set ≡ metBelow k (λ i. true) h → one ≡ 2 ^ h k
+    → bitOr set one ≡ metBelow (k + 1) (λ i. true) h
+met-next h k met e = rw (add-one k) (ap₂ bitOr met e)
+
+-- the sets of a whole row
+pub row-full : {N : ℕ} {bytes : List ℕ} → InRange N bytes → (row : ℕ) → row < N → {k fs gs : ℕ} → k ≡ N
+    → fs ≡ metBelow k (λ i. true) (shown 2 N 0 bytes row) → gs ≡ metBelow k (λ i. true) (shown 2 N 1 bytes row)
+    → (eqb fs (2 ^ N - 1) && eqb gs (2 ^ N - 1)) ≡ rowPermutes N bytes row
+row-full {N} {bytes} legible row h all f g =
+    ap₂ _&&_ (line-full N (shown 2 N 0 bytes row) f all (λ col hc. symbol-lt legible 0 (omega arith) h hc))
+    (line-full N (shown 2 N 1 bytes row) g all (λ col hc. symbol-lt legible 1 (omega arith) h hc))
+
+-- two pairs more in a table
+pub put-two : (first second : ℕ → ℕ) (empty : List ℕ) (col : ℕ) {table : List ℕ} {a x b y : ℕ}
+    → table ≡ pairsPut empty (2 * col) first second → a ≡ first (2 * col) → x ≡ 2 ^ second (2 * col)
+    → b ≡ first (2 * col + 1) → y ≡ 2 ^ second (2 * col + 1)
+    → added (added table a x) b y ≡ pairsPut empty (2 * (col + 1)) first second
+put-two first second empty col is ea ex eb ey =
+    let two : 2 * (col + 1) ≡ suc (suc (2 * col)) = omega arith in
+    let next : 2 * col + 1 ≡ suc (2 * col) = add-one (2 * col) in
+    rw (two, is, ea, ex, eb, ey, next)

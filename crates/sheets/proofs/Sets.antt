@@ -13,10 +13,10 @@ use borrow.Author.Tests.{leb-true, eqb-true, le-leb, eq-eqb, ne-eqb}
 use Rattle.poly.specs.Code.{digit}
 use Rattle.squares.proofs.Middle
 use Rattle.squares.proofs.Places.{digit-or, digit-shl-high, digit-shl-low}
-use Rattle.sheets.specs.Counting.{countBelow, allBelow, runsOnce}
+use Rattle.sheets.specs.Counting.{countBelow, allBelow, isPermutation}
 use Rattle.sheets.specs.Inner.{metBelow}
 use Rattle.sheets.proofs.Below.{same-truth, all-at, all-true}
-use Rattle.sheets.proofs.TwoWays.{flag, line-once}
+use Rattle.sheets.proofs.TwoWays.{flag, line-once, pairs-once}
 
 -- the one bit of a power of two
 power-bit : (x v : ℕ) → digit 2 (2 ^ x) v ≡ flag (eqb x v)
@@ -104,13 +104,10 @@ met-full test h k m below =
     tried : ℕ → Bool
     tried v = leb 1 (countBelow k (λ i. test i && eqb (h i) v))
 
--- N symbols below N of which none is missing run once through them.
-pub line-full : (N : ℕ) (h : ℕ → ℕ) {k set : ℕ} → set ≡ metBelow k (λ i. true) h → k ≡ N → ((i : ℕ) → i < N → h i < N)
-    → eqb set (2 ^ N - 1) ≡ runsOnce N h
-line-full N h {k} {set} is all below =
-    ap (λ (s : ℕ). eqb s (2 ^ N - 1)) (is ∙ ap (λ (j : ℕ). metBelow j (λ i. true) h) all)
-    ∙ met-full (λ i. true) h N N below
-    ∙ same-truth _ _
+-- N symbols of which none below N is missing run once through them.
+pub some-once : (N : ℕ) (h : ℕ → ℕ) → allBelow N (λ v. leb 1 (countBelow N (λ i. eqb (h i) v))) ≡ isPermutation N h
+some-once N h =
+    same-truth _ _
     (λ e. all-true (λ v. eqb (times v) 1) N
     (λ v l. eq-eqb (times v) 1 (line-once N h (λ v l. leb-true 1 (times v) (all-at (λ v. leb 1 (times v)) N e v l)) v l)))
     (λ e. all-true (λ v. leb 1 (times v)) N
@@ -118,3 +115,36 @@ line-full N h {k} {set} is all below =
   where
     times : ℕ → ℕ
     times v = countBelow N (λ i. eqb (h i) v)
+
+-- N × N sites of which no pair of symbols below N is missing show each pair once.
+pub one-site : (N : ℕ) (first second : ℕ → ℕ)
+    → let sites : ℕ → ℕ → ℕ = λ a b. countBelow (N * N) (λ s. eqb (first s) a && eqb (second s) b) in
+    allBelow N (λ a. allBelow N (λ b. leb 1 (sites a b))) ≡ allBelow N (λ a. allBelow N (λ b. eqb (sites a b) 1))
+one-site N first second =
+    same-truth _ _
+    (λ e. all-true (λ a. allBelow N (one a)) N
+    (λ a ha. all-true (one a) N
+    (λ b hb. eq-eqb (sites a b) 1
+    (pairs-once N first second (λ a b ha hb. leb-true 1 (sites a b) (both-at some e a b ha hb)) a b ha hb))))
+    (λ e. all-true (λ a. allBelow N (some a)) N
+    (λ a ha. all-true (some a) N
+    (λ b hb. let is : sites a b ≡ 1 = eqb-true (sites a b) 1 (both-at one e a b ha hb) in le-leb 1 (sites a b) (omega arith))))
+  where
+    sites : ℕ → ℕ → ℕ
+    sites a b = countBelow (N * N) (λ s. eqb (first s) a && eqb (second s) b)
+
+    some : ℕ → ℕ → Bool
+    some a b = leb 1 (sites a b)
+
+    one : ℕ → ℕ → Bool
+    one a b = eqb (sites a b) 1
+
+    both-at : (test : ℕ → ℕ → Bool) → allBelow N (λ a. allBelow N (test a)) ≡ true → (a b : ℕ) → a < N → b < N → test a b ≡ true
+    both-at test e a b ha hb = all-at (test a) N (all-at (λ a. allBelow N (test a)) N e a ha) b hb
+
+-- A line of symbols below N whose set is full.
+pub line-full : (N : ℕ) (h : ℕ → ℕ) {k set : ℕ} → set ≡ metBelow k (λ i. true) h → k ≡ N → ((i : ℕ) → i < N → h i < N)
+    → eqb set (2 ^ N - 1) ≡ isPermutation N h
+line-full N h {k} {set} is all below =
+    ap (λ (s : ℕ). eqb s (2 ^ N - 1)) (is ∙ ap (λ (j : ℕ). metBelow j (λ i. true) h) all)
+    ∙ met-full (λ i. true) h N N below ∙ some-once N h

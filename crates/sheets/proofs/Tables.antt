@@ -1,5 +1,4 @@
--- The table of pairs: set number a has the second symbols that were met beside the first symbol a. Where all of its sets are full, no pair
--- is missing, so that each has one site.
+-- Tables of sets, into which pairs (a, b) are put: set number a then has b. Where the sets are full, no pair is missing.
 use Prim.Native.Nat.{ℕ, zero, suc, _+_, _-_, _*_, _^_, _≤_, _<_}
 use native.Mathlib.Nat.{add-suc, add-zero}
 use native.Mathlib.Decide.{ℕ-discrete}
@@ -13,7 +12,7 @@ use lib.ListN.{length, getD, replicate, length-set, getD-replicate}
 use lib.Seq.{getD-set-same, getD-set-other}
 use borrow.Author.Tests.{leb-true, eqb-true, le-leb, eq-eqb, ne-eqb}
 use Rattle.sheets.specs.Counting.{countBelow, allBelow}
-use Rattle.sheets.specs.Inner.{metBelow, pairPut, pairsPut}
+use Rattle.sheets.specs.Inner.{metBelow, added, pairsPut}
 use Rattle.sheets.proofs.Below.{same-truth, all-at, all-true, all-same}
 use Rattle.sheets.proofs.Sets.{met-full}
 use Rattle.sheets.proofs.TwoWays.{pairs-once}
@@ -50,7 +49,7 @@ module _ (first second : ℕ → ℕ) where
       met = metBelow k (λ s. eqb (first s) a) second
 
       go : Dec (first k ≡ a) → getD put a 0 ≡ met
-          → getD (pairPut put (first k) (second k)) a 0 ≡ cond (eqb (first k) a) (bitOr met (2 ^ second k)) met
+          → getD (added put (first k) (2 ^ second k)) a 0 ≡ cond (eqb (first k) a) (bitOr met (2 ^ second k)) met
       go (yes e) ih =
           rw (
             eq-eqb (first k) a e,
@@ -63,32 +62,12 @@ module _ (first second : ℕ → ℕ) where
           let more = bitOr (getD put (first k) 0) (2 ^ second k) in
           rw (ne-eqb (first k) a n, getD-set-other put (first k) a more 0 (λ e. n (sym e))) ih
 
-  module _ (N : ℕ) where
-    -- how many sites show the pair (a, b)
-    abbrev sites : ℕ → ℕ → ℕ
-    sites a b = countBelow (N * N) (λ s. eqb (first s) a && eqb (second s) b)
-
-    pub table-full : N ≤ 64 → ((s : ℕ) → s < N * N → first s < N) → ((s : ℕ) → s < N * N → second s < N)
-        → allBelow N (λ a. eqb (getD (pairsPut (replicate 64 0) (N * N) first second) a 0) (2 ^ N - 1))
-        ≡ allBelow N (λ a. allBelow N (λ b. eqb (sites a b) 1))
-    table-full few inside below =
-        all-same _ (λ a. allBelow N (some a)) N
-        (λ a h. ap (λ (s : ℕ). eqb s (2 ^ N - 1))
-        (put-at (replicate 64 0) a (N * N) (getD-replicate 64 a 0 0 (omega arith)) (λ s hs. let l : _ = inside s hs in omega arith))
-        ∙ met-full (λ s. eqb (first s) a) second (N * N) N below)
-        ∙ same-truth _ _
-        (λ e. all-true (λ a. allBelow N (one a)) N
-        (λ a ha. all-true (one a) N (λ b hb. eq-eqb (sites a b) 1 (pairs-once N first second (met e) a b ha hb))))
-        (λ e. all-true (λ a. allBelow N (some a)) N
-        (λ a ha. all-true (some a) N
-        (λ b hb. let is : sites a b ≡ 1 = eqb-true (sites a b) 1 (all-at (one a) N (all-at (λ a. allBelow N (one a)) N e a ha) b hb) in
-        le-leb 1 (sites a b) (omega arith))))
-      where
-        some : ℕ → ℕ → Bool
-        some a b = leb 1 (sites a b)
-
-        one : ℕ → ℕ → Bool
-        one a b = eqb (sites a b) 1
-
-        met : allBelow N (λ a. allBelow N (some a)) ≡ true → (a b : ℕ) → a < N → b < N → 1 ≤ sites a b
-        met e a b ha hb = leb-true 1 (sites a b) (all-at (some a) N (all-at (λ a. allBelow N (some a)) N e a ha) b hb)
+  -- the first sets of a table, empty before k pairs were put, are full exactly where no pair below N is missing
+  pub table-some : (N k : ℕ) → N ≤ 64 → ((s : ℕ) → s < k → first s < N) → ((s : ℕ) → s < k → second s < N)
+      → allBelow N (λ a. eqb (getD (pairsPut (replicate 64 0) k first second) a 0) (2 ^ N - 1))
+      ≡ allBelow N (λ a. allBelow N (λ b. leb 1 (countBelow k (λ s. eqb (first s) a && eqb (second s) b))))
+  table-some N k few inside below =
+      all-same _ _ N
+      (λ a h. ap (λ (s : ℕ). eqb s (2 ^ N - 1))
+      (put-at (replicate 64 0) a k (getD-replicate 64 a 0 0 (omega arith)) (λ s hs. let l : _ = inside s hs in omega arith))
+      ∙ met-full (λ s. eqb (first s) a) second k N below)

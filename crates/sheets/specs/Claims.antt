@@ -11,7 +11,7 @@ use Rattle.squares.specs.Replies.{sheetReply, sheetBytes}
 use Rattle.sheets.specs.Replies.{sheetSize, checkSheetReply}
 
 -- What a sheet is to be: of order 3 to 64, with enough bytes, both of its squares Latin squares, and the two orthogonal.
-pub record GoodSheet (N : ℕ) (bytes : List ℕ) : Type 0 where
+pub record GraecoLatinSheet (N : ℕ) (bytes : List ℕ) : Type 0 where
   pub low : 3 ≤ N
   pub high : N ≤ 64
   pub long : sheetSize N ≤ length bytes
@@ -21,7 +21,7 @@ pub record GoodSheet (N : ℕ) (bytes : List ℕ) : Type 0 where
 
 -- A sheet passes precisely if it is good.
 abbrev pub PassClaim : Type 0
-PassClaim = (N : ℕ) (bytes : List ℕ) → (checkSheetReply N bytes ≡ served []) ↔ GoodSheet N bytes
+PassClaim = (N : ℕ) (bytes : List ℕ) → (checkSheetReply N bytes ≡ served []) ↔ GraecoLatinSheet N bytes
 
 -- Bytes behind the sheet are not looked at: the reply is that to the sheet alone.
 abbrev pub BehindClaim : Type 0

@@ -14,21 +14,21 @@ abbrev pub allBelow : ℕ → (ℕ → Bool) → Bool
 allBelow zero test = true
 allBelow (suc k) test = allBelow k test && test k
 
--- h 0, h 1, .., h (N - 1) run once through the symbols: each symbol below N comes up once.
-abbrev pub runsOnce : ℕ → (ℕ → ℕ) → Bool
-runsOnce N h = allBelow N (λ symbol. eqb (countBelow N (λ i. eqb (h i) symbol)) 1)
+-- h 0, h 1, .., h (N - 1) are a permutation of the symbols: each symbol below N comes up once (the paper: they run once through).
+abbrev pub isPermutation : ℕ → (ℕ → ℕ) → Bool
+isPermutation N h = allBelow N (λ symbol. eqb (countBelow N (λ i. eqb (h i) symbol)) 1)
 
--- The symbol runs once through every row and every column.
-abbrev pub latin : ℕ → Square → Bool
-latin N square = allBelow N (λ row. runsOnce N (λ col. square row col)) && allBelow N (λ col. runsOnce N (λ row. square row col))
+-- Every row and every column is a permutation of the symbols.
+abbrev pub isLatin : ℕ → Square → Bool
+isLatin N square = allBelow N (λ row. isPermutation N (λ col. square row col)) && allBelow N (λ col. isPermutation N (λ row. square row col))
 
 -- Each pair of symbols has one site. The sites are counted row by row: site number s is in row s / N and column s % N.
-abbrev pub orthogonal : ℕ → Square → Square → Bool
-orthogonal N first second =
+abbrev pub isOrthogonal : ℕ → Square → Square → Bool
+isOrthogonal N first second =
     allBelow N
     (λ a. allBelow N
     (λ b. eqb (countBelow (N * N) (λ s. eqb (first (s / N) (s % N)) a && eqb (second (s / N) (s % N)) b)) 1))
 
--- Both: a Graeco-Latin square.
-abbrev pub graecoLatin : ℕ → Square → Square → Bool
-graecoLatin N first second = latin N first && latin N second && orthogonal N first second
+-- Both squares are Latin, and the two are orthogonal: a Graeco-Latin square.
+abbrev pub isGraecoLatin : ℕ → Square → Square → Bool
+isGraecoLatin N first second = isLatin N first && isLatin N second && isOrthogonal N first second

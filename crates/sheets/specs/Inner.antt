@@ -1,36 +1,43 @@
 -- How a sheet is checked: lines, and sets of the numbers met, bit v for v. No public contract speaks of it.
-use Prim.Native.Nat.{ℕ, zero, suc, _*_, _^_, _≤_, _<_}
+use Prim.Native.Nat.{ℕ, zero, suc, _*_, _/_, _%_, _^_, _≤_, _<_}
 use mathlib.Core.Bool.{Bool, cond, _&&_}
 use mathlib.Core.List.{List}
+use mathlib.Core.Path.{_≡_}
 use lib.Bits.{bitOr}
+use lib.Dec.{eqb}
 use lib.ListN.{length, getD, set}
 use Rattle.squares.specs.Sheets.{shown}
-use Rattle.sheets.specs.Counting.{runsOnce}
+use Rattle.sheets.specs.Counting.{isPermutation}
 
--- A sheet whose bytes are all there and all symbols: what its rows, columns and pairs are read by.
-pub record Legible (N : ℕ) (bytes : List ℕ) : Type 0 where
+-- A sheet whose bytes are all there and all symbols, so that they can be members of sets.
+pub record InRange (N : ℕ) (bytes : List ℕ) : Type 0 where
   pub some : 1 ≤ N
   pub few : N ≤ 64
   pub long : 2 * (N * N) ≤ length bytes
   pub symbols : (i : ℕ) → i < 2 * (N * N) → getD bytes i 0 < N
 
--- Both symbols run once through a row; through a column.
-abbrev pub rowRuns : ℕ → List ℕ → ℕ → Bool
-rowRuns N bytes row = runsOnce N (shown 2 N 0 bytes row) && runsOnce N (shown 2 N 1 bytes row)
+-- In a row both squares have a permutation of the symbols.
+abbrev pub rowPermutes : ℕ → List ℕ → ℕ → Bool
+rowPermutes N bytes row = isPermutation N (shown 2 N 0 bytes row) && isPermutation N (shown 2 N 1 bytes row)
 
-abbrev pub columnRuns : ℕ → List ℕ → ℕ → Bool
-columnRuns N bytes col = runsOnce N (λ row. shown 2 N 0 bytes row col) && runsOnce N (λ row. shown 2 N 1 bytes row col)
+-- Symbol k of two rows, column by column, the one row's and the other's by turns.
+abbrev pub byTurns : ℕ → List ℕ → ℕ → ℕ → ℕ → ℕ → ℕ
+byTurns N bytes k row next j = shown 2 N k bytes (cond (eqb (j % 2) 0) row next) (j / 2)
+
+-- The sets of one number each.
+pub record Singles (N : ℕ) (sets : List ℕ) : Type 0 where
+  pub at : (symbol : ℕ) → symbol < N → getD sets symbol 0 ≡ 2 ^ symbol
 
 -- The set of h i for the numbers i below k that pass a test.
 abbrev pub metBelow : ℕ → (ℕ → Bool) → (ℕ → ℕ) → ℕ
 metBelow zero test h = 0
 metBelow (suc k) test h = cond (test k) (bitOr (metBelow k test h) (2 ^ h k)) (metBelow k test h)
 
--- One more pair (a, b) put into a table of sets: b is in set number a.
-abbrev pub pairPut : List ℕ → ℕ → ℕ → List ℕ
-pairPut table a b = set table a (bitOr (getD table a 0) (2 ^ b))
+-- The members of one set added to set number a of a table.
+abbrev pub added : List ℕ → ℕ → ℕ → List ℕ
+added table a members = set table a (bitOr (getD table a 0) members)
 
--- The same for k pairs.
+-- k pairs (a, b) put into a table: b is added to set number a.
 abbrev pub pairsPut : List ℕ → ℕ → (ℕ → ℕ) → (ℕ → ℕ) → List ℕ
 pairsPut table zero first second = table
-pairsPut table (suc k) first second = pairPut (pairsPut table k first second) (first k) (second k)
+pairsPut table (suc k) first second = added (pairsPut table k first second) (first k) (2 ^ second k)

@@ -7,7 +7,7 @@ use lib.ListN.{length, getD}
 use Rattle.reply.specs.Reply.{Reply, served, Cause, _gives_, unless}
 use Rattle.poly.specs.Limits.{outside}
 use Rattle.squares.specs.Sheets.{shown}
-use Rattle.sheets.specs.Counting.{allBelow, graecoLatin}
+use Rattle.sheets.specs.Counting.{allBelow, isGraecoLatin}
 
 -- How many bytes a sheet of order N has, two a site.
 abbrev pub sheetSize : ℕ → ℕ
@@ -21,7 +21,7 @@ allSymbols N bytes = allBelow (sheetSize N) (λ i. ltb (getD bytes i 0) N)
 abbrev pub checkCauses : ℕ → List ℕ → List Cause
 checkCauses N bytes =
     outside 3 64 N gives 26 ∷ ltb (length bytes) (sheetSize N) gives 4 ∷ not (allSymbols N bytes) gives 27
-    ∷ not (graecoLatin N (shown 2 N 0 bytes) (shown 2 N 1 bytes)) gives 28 ∷ []
+    ∷ not (isGraecoLatin N (shown 2 N 0 bytes) (shown 2 N 1 bytes)) gives 28 ∷ []
 
 -- A sheet that passes is served with no values. Bytes behind the sheet are not looked at.
 unfoldable pub checkSheetReply : ℕ → List ℕ → Reply

@@ -3,16 +3,16 @@ use poly::Checked;
 use reply::Refusal;
 ghost use mathlib.Core.Path.{_≡_};
 ghost use mathlib.Core.Bool.{_&&_};
-ghost use Prim.Native.Nat.{_-_, _^_, _≤_, _<_};
+ghost use Prim.Native.Nat.{_+_, _-_, _*_, _/_, _^_, _≤_, _<_, min};
 ghost use lib.Dec.{ltb, eqb};
 ghost use lib.ListN.{length, getD};
 ghost use Rattle.poly.specs.Replies.{checkedReply};
 ghost use Rattle.squares.specs.Sheets.{shown};
-ghost use Rattle.sheets.specs.Counting.{allBelow, orthogonal, graecoLatin};
+ghost use Rattle.sheets.specs.Counting.{allBelow, isGraecoLatin};
 ghost use Rattle.sheets.specs.Replies.{checkSheetReply};
-ghost use Rattle.sheets.specs.Inner.{Legible, rowRuns, columnRuns, pairsPut};
+ghost use Rattle.sheets.specs.Inner.{InRange, Singles, rowPermutes, byTurns, added, pairsPut};
 
-// The check of a sheet of any order, two bytes a site, row by row.
+// The check of a sheet of an order from 3 to 64, two bytes a site, row by row.
 pub fn check_sheet(order: u32, sheet: &[u8]) -> Checked
     ensures { λ r. ⌜ checkedReply r ≡ checkSheetReply order (now (sheet .entry)) ⌝ }
 {
@@ -52,91 +52,133 @@ fn all_symbols(order: u8, size: usize, sheet: &[u8]) -> bool
     good
 }
 
-// Whether both squares are Latin and the two are orthogonal. Symbols that were met are a set, a bit for each: N symbols below N run once
-// through all of them where none is missing, and likewise N × N sites through the pairs.
+// Whether both squares are Latin and the two are orthogonal. Symbols that were met are sets, a bit for each: N symbols below N are a
+// permutation where none is missing from their set, and N × N sites show each pair once where no pair is missing. A column has a set of
+// first and one of second symbols, and each first symbol a set of those that were met beside it. Of an odd order the last row is put
+// twice, which no set shows.
 fn graeco_latin(order: usize, sheet: &[u8]) -> bool
-    requires { ⌜ Legible order (now sheet) ⌝ }
-    ensures { λ r. ⌜ r ≡ graecoLatin order (shown 2 order 0 (now (sheet .entry))) (shown 2 order 1 (now (sheet .entry))) ⌝ }
+    requires { ⌜ InRange order (now sheet) ⌝ }
+    ensures { λ r. ⌜ r ≡ isGraecoLatin order (shown 2 order 0 (now (sheet .entry))) (shown 2 order 1 (now (sheet .entry))) ⌝ }
 {
-    if !rows_and_pairs(order, sheet) {
-        return false;
-    }
-    columns(order, sheet)
-}
-
-// Whether both symbols run once through every row, and each pair of symbols has one site. Set number a of the table has those second
-// symbols that were met beside the first symbol a.
-fn rows_and_pairs(order: usize, sheet: &[u8]) -> bool
-    requires { ⌜ Legible order (now sheet) ⌝ }
-    ensures { λ r.
-        ⌜ r ≡ (allBelow order (rowRuns order (now (sheet .entry)))
-        && orthogonal order (shown 2 order 0 (now (sheet .entry))) (shown 2 order 1 (now (sheet .entry)))) ⌝ }
-{
+    let one = singles(order);
+    let mut firsts = [0u64; 64];
+    let mut seconds = [0u64; 64];
     let mut pairs = [0u64; 64];
     let mut row: usize = 0;
     while row < order {
-        if !row_runs(order, sheet, row, &mut pairs) {
+        let next = row_after(order, row);
+        if !two_rows(
+            order,
+            sheet,
+            row,
+            next,
+            &one,
+            &mut firsts,
+            &mut seconds,
+            &mut pairs,
+        ) {
             return false;
         }
-        row += 1;
+        row += 2;
+    }
+    if !all_full(order, &firsts) {
+        return false;
+    }
+    if !all_full(order, &seconds) {
+        return false;
     }
     all_full(order, &pairs)
 }
 
-// Whether both symbols run once through a row; and its pairs are put into the table.
-fn row_runs(order: usize, sheet: &[u8], row: usize, pairs: &mut [u64; 64]) -> bool
-    requires { ⌜ Legible order (now sheet) × (row < order) ⌝ }
-    ensures { λ r. ⌜ r ≡ rowRuns order (now (sheet .entry)) row ⌝ }
+// The sets of one symbol each: a load from memory takes less than a shift.
+fn singles(order: usize) -> [u64; 64]
+    requires { ⌜ order ≤ 64 ⌝ }
+    ensures { λ r. ⌜ Singles order r ⌝ }
+{
+    let mut one = [0u64; 64];
+    let mut symbol: usize = 0;
+    while symbol < order {
+        one[symbol] = 1 << symbol;
+        symbol += 1;
+    }
+    one
+}
+
+// The next row, or the same one if it is the last.
+fn row_after(order: usize, row: usize) -> usize
+    requires { ⌜ (row < order) × (order ≤ 64) ⌝ }
+    ensures { λ r. ⌜ r ≡ min (row + 1) (order - 1) ⌝ }
+{
+    if row + 1 < order {
+        return row + 1;
+    }
+    row
+}
+
+// Whether two rows have permutations of the symbols, of the first square and of the second; and their symbols are put into the sets. Two at
+// once, so that the sets of a column are read and written once for both.
+fn two_rows(
+    order: usize,
+    sheet: &[u8],
+    row: usize,
+    next: usize,
+    one: &[u64; 64],
+    firsts: &mut [u64; 64],
+    seconds: &mut [u64; 64],
+    pairs: &mut [u64; 64],
+) -> bool
+    requires { ⌜ InRange order (now sheet) × (row < order) × (next < order) × Singles order (now one) ⌝ }
+    ensures { λ r. ⌜ r ≡ (rowPermutes order (now (sheet .entry)) row && rowPermutes order (now (sheet .entry)) next) ⌝ }
     ensures { λ _.
-        ⌜ now (pairs .exit) ≡ pairsPut (now (pairs .entry)) order (shown 2 order 0 (now (sheet .entry)) row)
-        (shown 2 order 1 (now (sheet .entry)) row) ⌝ }
+        ⌜ now (firsts .exit) ≡ pairsPut (now (firsts .entry)) (2 * order) (λ j. j / 2)
+        (byTurns order (now (sheet .entry)) 0 row next) ⌝ }
+    ensures { λ _.
+        ⌜ now (seconds .exit) ≡ pairsPut (now (seconds .entry)) (2 * order) (λ j. j / 2)
+        (byTurns order (now (sheet .entry)) 1 row next) ⌝ }
+    ensures { λ _.
+        ⌜ now (pairs .exit) ≡ pairsPut (now (pairs .entry)) (2 * order) (byTurns order (now (sheet .entry)) 0 row next)
+        (byTurns order (now (sheet .entry)) 1 row next) ⌝ }
 {
     let start = row * order;
-    let mut first: u64 = 0;
-    let mut second: u64 = 0;
+    let below = next * order;
+    let mut fs: u64 = 0;
+    let mut gs: u64 = 0;
+    let mut hs: u64 = 0;
+    let mut ks: u64 = 0;
     let mut col: usize = 0;
     while col < order {
         let at = 2 * (start + col);
+        let to = 2 * (below + col);
         let f = sheet[at] as usize;
-        let g = 1u64 << sheet[at + 1];
-        first = first | (1 << f);
-        second = second | g;
-        pairs[f] = pairs[f] | g;
+        let g = sheet[at + 1] as usize;
+        let h = sheet[to] as usize;
+        let k = sheet[to + 1] as usize;
+        let f1 = one[f];
+        let g1 = one[g];
+        let h1 = one[h];
+        let k1 = one[k];
+        fs = fs | f1;
+        gs = gs | g1;
+        hs = hs | h1;
+        ks = ks | k1;
+        put_two(firsts, col, f1, col, h1);
+        put_two(seconds, col, g1, col, k1);
+        put_two(pairs, f, g1, h, k1);
         col += 1;
     }
-    both_full(order, first, second)
+    if !both_full(order, fs, gs) {
+        return false;
+    }
+    both_full(order, hs, ks)
 }
 
-// Whether both symbols run once through every column.
-fn columns(order: usize, sheet: &[u8]) -> bool
-    requires { ⌜ Legible order (now sheet) ⌝ }
-    ensures { λ r. ⌜ r ≡ allBelow order (columnRuns order (now (sheet .entry))) ⌝ }
+// Adds x to set number a of a table, then y to set number b.
+fn put_two(table: &mut [u64; 64], a: usize, x: u64, b: usize, y: u64)
+    requires { ⌜ (a < 64) × (b < 64) ⌝ }
+    ensures { λ _. ⌜ now (table .exit) ≡ added (added (now (table .entry)) a x) b y ⌝ }
 {
-    let mut col: usize = 0;
-    while col < order {
-        if !column_runs(order, sheet, col) {
-            return false;
-        }
-        col += 1;
-    }
-    true
-}
-
-// Whether both symbols run once through a column.
-fn column_runs(order: usize, sheet: &[u8], col: usize) -> bool
-    requires { ⌜ Legible order (now sheet) × (col < order) ⌝ }
-    ensures { λ r. ⌜ r ≡ columnRuns order (now (sheet .entry)) col ⌝ }
-{
-    let mut first: u64 = 0;
-    let mut second: u64 = 0;
-    let mut row: usize = 0;
-    while row < order {
-        let at = 2 * (row * order + col);
-        first = first | (1 << sheet[at]);
-        second = second | (1 << sheet[at + 1]);
-        row += 1;
-    }
-    both_full(order, first, second)
+    table[a] = table[a] | x;
+    table[b] = table[b] | y;
 }
 
 // The set of all symbols below the order.
