@@ -2,7 +2,7 @@
 -- exactly where the squares are orthogonal. What is met among the items is what is met among the sites.
 use mathlib.Core.Bool.{Bool, true, _&&_}
 use mathlib.Core.List.{List}
-use mathlib.Core.Path.{_≡_, refl, sym, ap, ap₂, _∙_}
+use mathlib.Core.Path.{_≡_, sym, ap, ap₂, _∙_}
 use Prim.Native.Nat.{ℕ, _+_, _-_, _*_, _/_, _%_, _^_, _≤_, _<_, min}
 use native.Mathlib.Nat.{add-mul, zero-mul, mod-lt, div-lt-iff-lt-mul}
 use native.Mathlib.Omega.{arith}
@@ -96,7 +96,8 @@ module _ (N : ℕ) (bytes : List ℕ) where
         ap (λ (t : List ℕ). allBelow N (λ a. eqb (getD t a 0) (2 ^ N - 1))) is
         ∙ table-some (of 0) (of 1) N (rows * N) (legible .few) (λ s h. of-lt 0 (omega arith) s) (λ s h. of-lt 1 (omega arith) s)
         ∙ all-same _ _ N
-        (λ a ha. all-same _ _ N (λ b hb. some-same (rows * N) (N * N) (λ s. eqb (of 0 s) a && eqb (of 1 s) b) (at a b) (there a b) (back a b)))
+        (λ a ha. all-same _ _ N
+        (λ b hb. some-same (rows * N) (N * N) (λ s. eqb (of 0 s) a && eqb (of 1 s) b) (at a b) (there a b) (back a b)))
         ∙ one-site N (λ s. shown 2 N 0 bytes (s / N) (s % N)) (λ s. shown 2 N 1 bytes (s / N) (s % N))
       where
         at : ℕ → ℕ → ℕ → Bool

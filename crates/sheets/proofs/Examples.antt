@@ -3,8 +3,7 @@ use mathlib.Core.List.{List, [], _∷_, _++_, map}
 use mathlib.Core.Path.{_≡_, refl}
 use Prim.Native.Nat.{ℕ, _+_, _*_, _%_}
 use lib.ListN.{take, set}
-use Rattle.loops.specs.Loops.{numbers}
-use Rattle.reply.specs.Reply.{Reply, served, refused}
+use Rattle.reply.specs.Reply.{served, refused}
 use Rattle.poly.specs.Limits.{outside}
 use Rattle.squares.specs.Sheets.{sheet, shown}
 use Rattle.sheets.specs.Replies.{checkSheetReply}
@@ -30,8 +29,8 @@ unfolding checkSheetReply outside sheet shown
 fails = refl
 
 -- 26, 4 and 27 come before what is wrong besides; a byte that is missing is not taken for 0
-pub refusals : (checkSheetReply 2 [] ∷ checkSheetReply 65 [] ∷ checkSheetReply 3 (take 17 (linear 3 1 1 1 2)) ∷ checkSheetReply 5 (take 49 (set (linear 5 1 1 1 2) 0 5))
-    ∷ checkSheetReply 5 (set (linear 5 1 1 1 1) 49 5) ∷ [])
+pub refusals : (checkSheetReply 2 [] ∷ checkSheetReply 65 [] ∷ checkSheetReply 3 (take 17 (linear 3 1 1 1 2))
+    ∷ checkSheetReply 5 (take 49 (set (linear 5 1 1 1 2) 0 5)) ∷ checkSheetReply 5 (set (linear 5 1 1 1 1) 49 5) ∷ [])
     ≡ refused 26 ∷ refused 26 ∷ refused 4 ∷ refused 4 ∷ refused 27 ∷ []
 unfolding checkSheetReply outside sheet shown
 refusals = refl

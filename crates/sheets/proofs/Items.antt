@@ -1,9 +1,9 @@
 -- The order in which the sites are put into the sets, two rows at a time, column by column, and of an odd order the last row twice: item s
 -- is in rows 2 (s / 2N) and the next, column (s % 2N) / 2. Each site is an item, so that the sets are those of all sites.
 use mathlib.Core.Bool.{cond}
-use mathlib.Core.Path.{_≡_, sym, ap, ap₂, _∙_}
+use mathlib.Core.Path.{_≡_, ap, _∙_}
 use Prim.Native.Nat.{ℕ, zero, suc, _+_, _-_, _*_, _/_, _%_, _≤_, _<_, min}
-use native.Mathlib.Nat.{mul-assoc, mul-comm, mod-lt, div-lt-iff-lt-mul}
+use native.Mathlib.Nat.{mul-assoc, mod-lt}
 use native.Mathlib.Omega.{arith}
 use lib.Arith.{digits-lt, digits-div, digits-mod}
 use lib.Dec.{eqb}

@@ -57,7 +57,8 @@ module _ (N : ℕ) (square : Square) where
   )
 
   pub latin-below : Latin N square → (row col : ℕ) → row < N → col < N → square row col < N
-  latin-below l row col hr hc = permutation-below N (square row) (unique-permutation N (square row) (λ symbol hs. l .rows row symbol hr hs)) col hc
+  latin-below l row col hr hc =
+      permutation-below N (square row) (unique-permutation N (square row) (λ symbol hs. l .rows row symbol hr hs)) col hc
 
 module _ (N : ℕ) (first second : Square) where
   -- site number s shows the pair (a, b)

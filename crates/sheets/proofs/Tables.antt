@@ -1,21 +1,20 @@
 -- Tables of sets, into which pairs (a, b) are put: set number a then has b. Where the sets are full, no pair is missing.
-use Prim.Native.Nat.{ℕ, zero, suc, _+_, _-_, _*_, _^_, _≤_, _<_}
+use Prim.Native.Nat.{ℕ, zero, suc, _+_, _-_, _^_, _≤_, _<_}
 use native.Mathlib.Nat.{add-suc, add-zero}
 use native.Mathlib.Decide.{ℕ-discrete}
 use native.Mathlib.Omega.{arith}
 use mathlib.Core.Path.{_≡_, refl, sym, ap, _∙_}
-use mathlib.Core.Bool.{Bool, true, cond, _&&_}
+use mathlib.Core.Bool.{cond, _&&_}
 use mathlib.Core.List.{List}
 use lib.Bits.{bitOr}
 use lib.Dec.{leb, eqb}
 use lib.ListN.{length, getD, replicate, length-set, getD-replicate}
 use lib.Seq.{getD-set-same, getD-set-other}
-use borrow.Author.Tests.{leb-true, eqb-true, le-leb, eq-eqb, ne-eqb}
+use borrow.Author.Tests.{eq-eqb, ne-eqb}
 use Rattle.sheets.specs.Counting.{countBelow, allBelow}
 use Rattle.sheets.specs.Inner.{metBelow, added, pairsPut}
-use Rattle.sheets.proofs.Below.{same-truth, all-at, all-true, all-same}
+use Rattle.sheets.proofs.Below.{all-same}
 use Rattle.sheets.proofs.Sets.{met-full}
-use Rattle.sheets.proofs.TwoWays.{pairs-once}
 
 -- pairs put one after the other
 pub pairs-append : (table : List ℕ) (a b : ℕ) (first second first′ second′ : ℕ → ℕ)

@@ -20,7 +20,8 @@ isPermutation N h = allBelow N (λ symbol. eqb (countBelow N (λ i. eqb (h i) sy
 
 -- Every row and every column is a permutation of the symbols.
 abbrev pub isLatin : ℕ → Square → Bool
-isLatin N square = allBelow N (λ row. isPermutation N (λ col. square row col)) && allBelow N (λ col. isPermutation N (λ row. square row col))
+isLatin N square =
+    allBelow N (λ row. isPermutation N (λ col. square row col)) && allBelow N (λ col. isPermutation N (λ row. square row col))
 
 -- Each pair of symbols has one site. The sites are counted row by row: site number s is in row s / N and column s % N.
 abbrev pub isOrthogonal : ℕ → Square → Square → Bool

@@ -141,6 +141,7 @@ fn two_rows(
 {
     let start = row * order;
     let below = next * order;
+    // The sets of the one row's first and second symbols, and of the other's.
     let mut fs: u64 = 0;
     let mut gs: u64 = 0;
     let mut hs: u64 = 0;

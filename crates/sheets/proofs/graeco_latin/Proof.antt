@@ -48,8 +48,9 @@ loop-again c =
     let a = c .before .before .before .before .before .before .before .before .before .before .before .args in
     let inside = c .before .before .before .before .before .before .before .loop-test .taken in
     let (permute, (firsts, (seconds, pairs))) = c .before .two-rows .ensures in
-    rows-next (a .order) (a .sheet .now) inside (c .before .before .before .before .before .before .row-after .ensures) (c .before .before .before .before .before .before .before .before .loop .inv)
-    (sym permute ∙ not-false _ (c .if1 .left)) firsts seconds pairs
+    rows-next (a .order) (a .sheet .now) inside (c .before .before .before .before .before .before .row-after .ensures)
+    (c .before .before .before .before .before .before .before .before .loop .inv) (sym permute ∙ not-false _ (c .if1 .left))
+    firsts seconds pairs
 
 -- What the three tables say, once all rows are put.
 worked : (c : tie.After-loop Inv-loop μ-loop) →
@@ -75,7 +76,8 @@ returns-3 c =
 
 returns-4 : tie.Need-returns-4 Inv-loop μ-loop
 returns-4 c =
-    let passes = sym (c .before .before .before .before .before .before .all-full .ensures) ∙ not-false _ (c .before .before .before .before .before .if2 .left) in
+    let tried = c .before .before .before .before .before in
+    let passes = sym (tried .before .all-full .ensures) ∙ not-false _ (tried .if2 .left) in
     let passes′ = sym (c .before .before .before .all-full2 .ensures) ∙ not-false _ (c .before .before .if3 .left) in
     c .all-full3 .ensures ∙ sym (worked (c .before .before .before .before .before .before .before .before) ∙ rw (passes, passes′))
 
@@ -90,12 +92,14 @@ graeco-latin-spec =
     row-after-requires
     two-rows-requires
     returns
-    (λ c. record { fits = omega (arith, c .before .before .before .before .before .before .before .before .before .before .before .pre .few, c .before .before .before .before .before .before .before .loop-test .taken) })
+    (λ c. let turn = c .before .before .before .before .before .before .before in
+    record { fits = omega (arith, turn .before .before .before .before .pre .few, turn .loop-test .taken) })
     (λ c. omega (arith, c .before .before .before .before .before .before .before .loop-test .taken))
     loop-again
-    (λ c κs. (c .before .before .before .before .before .pre .some, c .before .before .before .before .before .pre .few))
+    (λ c κs. let in-range = c .before .before .before .before .before .pre in (in-range .some, in-range .few))
     returns-2
-    (λ c κs. (c .before .before .before .before .before .before .before .before .pre .some, c .before .before .before .before .before .before .before .before .pre .few))
+    (λ c κs. let in-range = c .before .before .before .before .before .before .before .before .pre in (in-range .some, in-range .few))
     returns-3
-    (λ c κs. (c .before .before .before .before .before .before .before .before .before .before .before .pre .some, c .before .before .before .before .before .before .before .before .before .before .before .pre .few))
+    (λ c κs. let in-range = c .before .before .before .before .before .before .before .before .before .before .before .pre in
+    (in-range .some, in-range .few))
     returns-4)

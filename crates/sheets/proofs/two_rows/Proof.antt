@@ -1,14 +1,15 @@
 -- `two_rows` meets its contract: the four sets have the symbols that were met in the two rows, and the tables have them by column and in
 -- pairs.
-use mathlib.Core.Bool.{true, _&&_}
+use mathlib.Core.Bool.{true}
 use mathlib.Core.List.{List}
-use mathlib.Core.Path.{_≡_, refl, sym, ap, ap₂, _∙_}
-use Prim.Native.Nat.{ℕ, suc, _+_, _-_, _*_, _/_, _%_, _^_, _≤_, _<_}
+use mathlib.Core.Path.{_≡_, refl, sym, ap, _∙_}
+use Prim.Native.Nat.{ℕ, _+_, _-_, _*_, _/_, _^_, _≤_, _<_}
 use native.Mathlib.Omega.{arith}
 use borrow.Author.Tests.{not-true, not-false}
 use Rattle.squares.specs.Sheets.{shown}
 use Rattle.sheets.specs.Inner.{metBelow, pairsPut, byTurns}
-use Rattle.sheets.proofs.Reading.{Readable, readable, first-shown, second-shown, single, turn-one, turn-other, met-next, row-full, put-two}
+use Rattle.sheets.proofs.Reading.{Readable, readable, first-shown, second-shown, single, turn-one, turn-other}
+use Rattle.sheets.proofs.Reading.{met-next, row-full, put-two}
 use Rattle.sheets.proofs.two_rows.Statement.{statement}
 use Rattle.sheets.proofs.two_rows.Tie as tie
 
@@ -40,11 +41,16 @@ here : (c : tie.In-loop Inv-loop μ-loop) →
     Sites (a .order) (a .sheet .now) (a .row) (a .next) (c .before .loop .col)
 here c =
     let (legible, row, next, _) = c .before .before .before .pre in
-    record { one = readable legible row (c .loop-test .taken); other = readable legible next (c .loop-test .taken); inside = c .loop-test .taken }
+    let inside = c .loop-test .taken in
+    record { one = readable legible row inside; other = readable legible next inside; inside = inside }
+
+-- The turn that is at its end.
+abbrev last : tie.After-put-two3 Inv-loop μ-loop → tie.In-loop Inv-loop μ-loop
+last c = c .before .before .before .before .before .before .before .before .before .before .before .before .before .before
 
 loop-again : tie.Need-loop-again Inv-loop μ-loop
 loop-again c =
-    let turn = c .before .before .before .before .before .before .before .before .before .before .before .before .before .before in
+    let turn = last c in
     let a = turn .before .before .before .args in
     let N = a .order in
     let bytes = a .sheet .now in
@@ -101,7 +107,8 @@ returns-2 c =
     let loop = c .before .before .before .before .loop in
     let (legible, row, next, _) = start .pre in
     let all : loop .col ≡ start .args .order = omega (arith, c .before .before .before .loop-test .left) in
-    let passes = sym (row-full legible (start .args .row) row all (loop .inv .1) (loop .inv .2)) ∙ sym (c .before .before .both-full .ensures)
+    let passes = sym (row-full legible (start .args .row) row all (loop .inv .1) (loop .inv .2))
+    ∙ sym (c .before .before .both-full .ensures)
     ∙ not-false _ (c .before .if1 .left) in
     let second = c .both-full2 .ensures ∙ row-full legible (start .args .next) next all (loop .inv .3) (loop .inv .4) in
     (rw passes second, (rw all at (loop .inv .5), (rw all at (loop .inv .6), rw all at (loop .inv .7))))
@@ -137,11 +144,13 @@ two-rows-spec =
     (λ c. omega (arith, here (c .before .before .before .before .before .before)))
     (λ c. record { fits = omega (arith, here (c .before .before .before .before .before .before .before)) })
     (λ c. omega (arith, here (c .before .before .before .before .before .before .before)))
-    (λ c κs. (omega (arith, here (c .before .before .before .before .before .before .before .before .before)), omega (arith, here (c .before .before .before .before .before .before .before .before .before))))
-    (λ c κs. (omega (arith, here (c .before .before .before .before .before .before .before .before .before .before .before)), omega (arith, here (c .before .before .before .before .before .before .before .before .before .before .before))))
-    (λ c κs. (omega (arith, here (c .before .before .before .before .before .before .before .before .before .before .before .before .before)), omega (arith, here (c .before .before .before .before .before .before .before .before .before .before .before .before .before))))
-    (λ c. record { fits = omega (arith, here (c .before .before .before .before .before .before .before .before .before .before .before .before .before .before)) })
-    (λ c. omega (arith, here (c .before .before .before .before .before .before .before .before .before .before .before .before .before .before)))
+    (λ c κs. let sites = here (c .before .before .before .before .before .before .before .before .before) in (omega arith, omega arith))
+    (λ c κs. let sites = here (c .before .before .before .before .before .before .before .before .before .before .before) in
+    (omega arith, omega arith))
+    (λ c κs. let sites = here (c .before .before .before .before .before .before .before .before .before .before .before .before .before) in
+    (omega arith, omega arith))
+    (λ c. let sites = here (last c) in record { fits = omega arith })
+    (λ c. omega (arith, here (last c)))
     loop-again
     both-full-requires
     returns
