@@ -61,15 +61,15 @@ module _ (N : ℕ) (bytes : List ℕ) where
         → byTurns N bytes k row next i ≡ of k (row * N + i)
     symbol-next k hr is i h = ap₂ (shown 2 N k bytes) (sym (turn-row N row i even h hr is)) (column-next i h)
 
-  module _ (legible : InRange N bytes) (rows : ℕ) (all : N ≤ rows) (even : rows % 2 ≡ 0) where
+  module _ (in-range : InRange N bytes) (rows : ℕ) (all : N ≤ rows) (even : rows % 2 ≡ 0) where
     of-lt : (k : ℕ) → k < 2 → (s : ℕ) → of k s < N
-    of-lt k hk s = symbol-lt legible k hk (row-lt N (legible .some) s) (col-lt N (legible .some) s)
+    of-lt k hk s = symbol-lt in-range k hk (row-lt N (in-range .some) s) (col-lt N (in-range .some) s)
 
     pub columns-full : (k : ℕ) → k < 2 → {table : List ℕ} → table ≡ itemsPut (colOf N) (of k) rows
         → allBelow N (λ a. eqb (getD table a 0) (2 ^ N - 1)) ≡ allBelow N (λ col. isPermutation N (λ row. shown 2 N k bytes row col))
     columns-full k hk is =
         ap (λ (t : List ℕ). allBelow N (λ a. eqb (getD t a 0) (2 ^ N - 1))) is
-        ∙ table-some (colOf N) (of k) N (rows * N) (legible .few) (λ s h. col-lt N (legible .some) s) (λ s h. of-lt k hk s)
+        ∙ table-some (colOf N) (of k) N (rows * N) (in-range .few) (λ s h. col-lt N (in-range .some) s) (λ s h. of-lt k hk s)
         ∙ all-same _ _ N
         (λ col hc. all-same _ _ N (λ v hv. some-same (rows * N) N (λ s. eqb (colOf N s) col && eqb (of k s) v)
         (λ row. eqb (shown 2 N k bytes row col) v) (there col v) (back col v hc))
@@ -79,7 +79,7 @@ module _ (N : ℕ) (bytes : List ℕ) where
             → (row : ℕ) × (row < N) × (eqb (shown 2 N k bytes row col) v ≡ true)
         there col v s h e =
             let (c, d) = both-true (eqb (colOf N s) col) (eqb (of k s) v) e in
-            (rowOf N s, row-lt N (legible .some) s, rw (eqb-true (colOf N s) col c) at d)
+            (rowOf N s, row-lt N (in-range .some) s, rw (eqb-true (colOf N s) col c) at d)
 
         back : (col v : ℕ) → col < N → (row : ℕ) → row < N → eqb (shown 2 N k bytes row col) v ≡ true
             → (s : ℕ) × (s < rows * N) × ((eqb (colOf N s) col && eqb (of k s) v) ≡ true)
@@ -94,7 +94,7 @@ module _ (N : ℕ) (bytes : List ℕ) where
         → allBelow N (λ a. eqb (getD table a 0) (2 ^ N - 1)) ≡ isOrthogonal N (shown 2 N 0 bytes) (shown 2 N 1 bytes)
     pairs-full is =
         ap (λ (t : List ℕ). allBelow N (λ a. eqb (getD t a 0) (2 ^ N - 1))) is
-        ∙ table-some (of 0) (of 1) N (rows * N) (legible .few) (λ s h. of-lt 0 (omega arith) s) (λ s h. of-lt 1 (omega arith) s)
+        ∙ table-some (of 0) (of 1) N (rows * N) (in-range .few) (λ s h. of-lt 0 (omega arith) s) (λ s h. of-lt 1 (omega arith) s)
         ∙ all-same _ _ N
         (λ a ha. all-same _ _ N
         (λ b hb. some-same (rows * N) (N * N) (λ s. eqb (of 0 s) a && eqb (of 1 s) b) (at a b) (there a b) (back a b)))
@@ -105,12 +105,12 @@ module _ (N : ℕ) (bytes : List ℕ) where
 
         there : (a b s : ℕ) → s < rows * N → (eqb (of 0 s) a && eqb (of 1 s) b) ≡ true → (t : ℕ) × (t < N * N) × (at a b t ≡ true)
         there a b s h e =
-            let hr = row-lt N (legible .some) s in
-            let hc = col-lt N (legible .some) s in
+            let hr = row-lt N (in-range .some) s in
+            let hc = col-lt N (in-range .some) s in
             (rowOf N s * N + colOf N s, digits-lt hr hc, rw (digits-div (rowOf N s) hc, digits-mod (rowOf N s) hc) e)
 
         back : (a b t : ℕ) → t < N * N → at a b t ≡ true → (s : ℕ) × (s < rows * N) × ((eqb (of 0 s) a && eqb (of 1 s) b) ≡ true)
         back a b t h e =
-            let hr : t / N < N = div-lt-iff-lt-mul (legible .some) .1 h in
-            let hc : t % N < N = mod-lt t (legible .some) in
+            let hr : t / N < N = div-lt-iff-lt-mul (in-range .some) .1 h in
+            let hc : t % N < N = mod-lt t (in-range .some) in
             (item N (t / N) (t % N), item-lt N hr hc all even, rw (item-row N hr hc, item-col N hr hc) e)

@@ -1,4 +1,4 @@
--- What a legible sheet gives: the bytes of a site are there and are symbols below 64, so that they can be put into sets of 64 bits.
+-- What a sheet in range gives: the bytes of a site are there and are symbols below 64, so that they can be put into sets of 64 bits.
 use mathlib.Core.Bool.{true, _&&_}
 use mathlib.Core.List.{List}
 use mathlib.Core.Path.{_≡_, refl, sym, ap, ap₂, _∙_}
@@ -25,23 +25,23 @@ pub record Readable (N : ℕ) (bytes : List ℕ) (row col : ℕ) : Type 0 where
 pub few-sites : {N : ℕ} → N ≤ 64 → N * N ≤ 4096
 few-sites few = mul-le-mul few few
 
-module _ {N : ℕ} {bytes : List ℕ} (legible : InRange N bytes) where
+module _ {N : ℕ} {bytes : List ℕ} (in-range : InRange N bytes) where
   pub readable : {row col : ℕ} → row < N → col < N → Readable N bytes row col
   readable {row} {col} hr hc =
       let site : row * N + col < N * N = digits-lt hr hc in
       record {
-        low = omega (arith, few-sites (legible .few));
-        inside = omega (arith, legible .long);
-        first = legible .symbols (2 * (row * N + col)) (omega arith);
-        second = legible .symbols (2 * (row * N + col) + 1) (omega arith);
-        few = legible .few;
+        low = omega (arith, few-sites (in-range .few));
+        inside = omega (arith, in-range .long);
+        first = in-range .symbols (2 * (row * N + col)) (omega arith);
+        second = in-range .symbols (2 * (row * N + col) + 1) (omega arith);
+        few = in-range .few;
       }
 
   pub symbol-lt : (k : ℕ) → k < 2 → {row col : ℕ} → row < N → col < N → shown 2 N k bytes row col < N
   unfolding shown
   symbol-lt k hk {row} {col} hr hc =
       let site : row * N + col < N * N = digits-lt hr hc in
-      legible .symbols (2 * (row * N + col) + k) (omega arith)
+      in-range .symbols (2 * (row * N + col) + k) (omega arith)
 
 -- the bytes are the symbols that the squares show
 module _ (N : ℕ) (bytes : List ℕ) (row col : ℕ) where
@@ -80,9 +80,9 @@ met-next h k met e = rw (add-one k) (ap₂ bitOr met e)
 pub row-full : {N : ℕ} {bytes : List ℕ} → InRange N bytes → (row : ℕ) → row < N → {k fs gs : ℕ} → k ≡ N
     → fs ≡ metBelow k (λ i. true) (shown 2 N 0 bytes row) → gs ≡ metBelow k (λ i. true) (shown 2 N 1 bytes row)
     → (eqb fs (2 ^ N - 1) && eqb gs (2 ^ N - 1)) ≡ rowPermutes N bytes row
-row-full {N} {bytes} legible row h all f g =
-    ap₂ _&&_ (line-full N (shown 2 N 0 bytes row) f all (λ col hc. symbol-lt legible 0 (omega arith) h hc))
-    (line-full N (shown 2 N 1 bytes row) g all (λ col hc. symbol-lt legible 1 (omega arith) h hc))
+row-full {N} {bytes} in-range row h all f g =
+    ap₂ _&&_ (line-full N (shown 2 N 0 bytes row) f all (λ col hc. symbol-lt in-range 0 (omega arith) h hc))
+    (line-full N (shown 2 N 1 bytes row) g all (λ col hc. symbol-lt in-range 1 (omega arith) h hc))
 
 -- two pairs more in a table
 pub put-two : (first second : ℕ → ℕ) (empty : List ℕ) (col : ℕ) {table : List ℕ} {a x b y : ℕ}

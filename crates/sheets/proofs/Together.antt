@@ -108,11 +108,11 @@ module _ (N : ℕ) (bytes : List ℕ) where
 
   pub all-rows : InRange N bytes → {firsts seconds pairs : List ℕ} (rows : ℕ) → N ≤ rows → RowsPut N bytes firsts seconds pairs rows
       → isGraecoLatin N (shown 2 N 0 bytes) (shown 2 N 1 bytes) ≡ (full firsts && full seconds && full pairs)
-  all-rows legible rows all put =
+  all-rows in-range rows all put =
       in-turn
       ∙ rw (
         all-true (rowPermutes N bytes) N (λ i h. put .permute i (omega arith) h),
-        sym (columns-full N bytes legible rows all (put .even) 0 (omega arith) (put .of-first)),
-        sym (columns-full N bytes legible rows all (put .even) 1 (omega arith) (put .of-second)),
-        sym (pairs-full N bytes legible rows all (put .even) (put .of-both)),
+        sym (columns-full N bytes in-range rows all (put .even) 0 (omega arith) (put .of-first)),
+        sym (columns-full N bytes in-range rows all (put .even) 1 (omega arith) (put .of-second)),
+        sym (pairs-full N bytes in-range rows all (put .even) (put .of-both)),
       )

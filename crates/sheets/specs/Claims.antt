@@ -19,7 +19,7 @@ pub record GraecoLatinSheet (N : ℕ) (bytes : List ℕ) : Type 0 where
   pub second-latin : Latin N (shown 2 N 1 bytes)
   pub orthogonal : Orthogonal N (shown 2 N 0 bytes) (shown 2 N 1 bytes)
 
--- A sheet passes precisely if it is good.
+-- A sheet passes precisely if it is one of these.
 abbrev pub PassClaim : Type 0
 PassClaim = (N : ℕ) (bytes : List ℕ) → (checkSheetReply N bytes ≡ served []) ↔ GraecoLatinSheet N bytes
 

@@ -52,22 +52,22 @@ graeco-latin-requires c κs =
 returns-5 : tie.Need-returns-5
 unfolding checkSheetReply
 returns-5 c =
-    let legible = c .before .before in
+    let tried = c .before .before in
     rw (
-      in-range (legible .before .before),
-      le-ltb _ _ (legible .before .before .if3 .left),
-      sym (legible .before .all-symbols .ensures) ∙ not-false _ (legible .if4 .left),
+      in-range (tried .before .before),
+      le-ltb _ _ (tried .before .before .if3 .left),
+      sym (tried .before .all-symbols .ensures) ∙ not-false _ (tried .if4 .left),
       sym (c .before .graeco-latin .ensures) ∙ not-true _ (c .if5 .taken),
     )
 
 returns-6 : tie.Need-returns-6
 unfolding checkSheetReply
 returns-6 c =
-    let legible = c .before .before in
+    let tried = c .before .before in
     rw (
-      in-range (legible .before .before),
-      le-ltb _ _ (legible .before .before .if3 .left),
-      sym (legible .before .all-symbols .ensures) ∙ not-false _ (legible .if4 .left),
+      in-range (tried .before .before),
+      le-ltb _ _ (tried .before .before .if3 .left),
+      sym (tried .before .all-symbols .ensures) ∙ not-false _ (tried .if4 .left),
       sym (c .before .graeco-latin .ensures) ∙ not-false _ (c .if5 .left),
     )
 

@@ -40,9 +40,9 @@ here : (c : tie.In-loop Inv-loop μ-loop) →
     let a = c .before .before .before .args in
     Sites (a .order) (a .sheet .now) (a .row) (a .next) (c .before .loop .col)
 here c =
-    let (legible, row, next, _) = c .before .before .before .pre in
+    let (in-range, row, next, _) = c .before .before .before .pre in
     let inside = c .loop-test .taken in
-    record { one = readable legible row inside; other = readable legible next inside; inside = inside }
+    record { one = readable in-range row inside; other = readable in-range next inside; inside = inside }
 
 -- The turn that is at its end.
 abbrev last : tie.After-put-two3 Inv-loop μ-loop → tie.In-loop Inv-loop μ-loop
@@ -86,31 +86,31 @@ loop-again c =
     )
 
 both-full-requires : tie.Need-both-full-requires Inv-loop μ-loop
-both-full-requires c κs = let legible = c .before .before .before .pre .0 in (legible .some, legible .few)
+both-full-requires c κs = let in-range = c .before .before .before .pre .0 in (in-range .some, in-range .few)
 
 returns : tie.Need-returns Inv-loop μ-loop
 returns c =
     let start = c .before .before .before .before .before in
     let loop = c .before .before .before .loop in
-    let (legible, row, _, _) = start .pre in
+    let (in-range, row, _, _) = start .pre in
     let all : loop .col ≡ start .args .order = omega (arith, c .before .before .loop-test .left) in
-    let fails = sym (row-full legible (start .args .row) row all (loop .inv .1) (loop .inv .2)) ∙ sym (c .before .both-full .ensures)
+    let fails = sym (row-full in-range (start .args .row) row all (loop .inv .1) (loop .inv .2)) ∙ sym (c .before .both-full .ensures)
     ∙ not-true _ (c .if1 .taken) in
     (rw fails, (rw all at (loop .inv .5), (rw all at (loop .inv .6), rw all at (loop .inv .7))))
 
 both-full-requires-2 : tie.Need-both-full-requires-2 Inv-loop μ-loop
-both-full-requires-2 c κs = let legible = c .before .before .before .before .before .pre .0 in (legible .some, legible .few)
+both-full-requires-2 c κs = let in-range = c .before .before .before .before .before .pre .0 in (in-range .some, in-range .few)
 
 returns-2 : tie.Need-returns-2 Inv-loop μ-loop
 returns-2 c =
     let start = c .before .before .before .before .before .before in
     let loop = c .before .before .before .before .loop in
-    let (legible, row, next, _) = start .pre in
+    let (in-range, row, next, _) = start .pre in
     let all : loop .col ≡ start .args .order = omega (arith, c .before .before .before .loop-test .left) in
-    let passes = sym (row-full legible (start .args .row) row all (loop .inv .1) (loop .inv .2))
+    let passes = sym (row-full in-range (start .args .row) row all (loop .inv .1) (loop .inv .2))
     ∙ sym (c .before .before .both-full .ensures)
     ∙ not-false _ (c .before .if1 .left) in
-    let second = c .both-full2 .ensures ∙ row-full legible (start .args .next) next all (loop .inv .3) (loop .inv .4) in
+    let second = c .both-full2 .ensures ∙ row-full in-range (start .args .next) next all (loop .inv .3) (loop .inv .4) in
     (rw passes second, (rw all at (loop .inv .5), (rw all at (loop .inv .6), rw all at (loop .inv .7))))
 
 pub two-rows-spec : {M : Type 1} → statement M
@@ -119,8 +119,8 @@ two-rows-spec =
     (tie.spec
     Inv-loop
     μ-loop
-    (λ c. let (legible, row, _, _) = c .before .pre in record { fits = omega (arith, readable legible row (legible .some)) })
-    (λ c. let (legible, _, next, _) = c .before .pre in record { fits = omega (arith, readable legible next (legible .some)) })
+    (λ c. let (in-range, row, _, _) = c .before .pre in record { fits = omega (arith, readable in-range row (in-range .some)) })
+    (λ c. let (in-range, _, next, _) = c .before .pre in record { fits = omega (arith, readable in-range next (in-range .some)) })
     loop-holds
     (λ c. record { fits = omega (arith, here c) })
     (λ c. record { fits = omega (arith, here c) })
