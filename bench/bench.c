@@ -769,7 +769,7 @@ static Kept show_kept(void)
     return kept;
 }
 
-/* Sheets to check of orders that are no powers of two, with the power of two in each; gives the worst ratio. */
+/* Sheets to check of orders that are no powers of two, with the exponent of two in each; gives the worst ratio. */
 static double show_orders(void)
 {
     static const Job job = {"check sheet of another order", make_sheets, run_check_sheet, TRIALS, 0, 0};

@@ -1341,7 +1341,7 @@ static void damaged_files(void)
         damaged_everywhere(2, n);
 }
 
-/* A sheet made elsewhere, of which so many bytes are lent; gives what the call answers. The call only reads. */
+/* A sheet made elsewhere, of which so many bytes are lent; gives what the call must answer. The call only reads. */
 static uint32_t check_lent(uint32_t order, const uint8_t *bytes, size_t length)
 {
     uint32_t want = ref_check_sheet(order, bytes, length);
@@ -1445,7 +1445,7 @@ static uint32_t one_name(any_sheet *s)
     return 27;
 }
 
-/* Those that leave a good sheet good take symbols for places, so they come before the others. */
+/* Those that leave a good sheet good come first: two of them take symbols for indices, and a later change may put one beyond the order. */
 static uint32_t (*const changes[])(any_sheet *) = { new_parts, rows_of_both, cols_of_both, new_names, rows_of_one, cols_of_one, two_sites,
                                                   two_symbols, one_name, one_symbol };
 enum { HARMLESS = 4, CHANGES = sizeof changes / sizeof changes[0] };
@@ -1459,7 +1459,7 @@ static any_sheet sheet_of(uint32_t order)
     return made[order];
 }
 
-/* An order outside 3 to 64, now and then one whose low bits alone are those of a good order. */
+/* An order outside 3 to 64; half of the time one whose low bits alone are those of a good order. */
 static uint32_t some_outside(uint32_t order)
 {
     static const uint32_t outside[] = { 0, 1, 2, 65, 66, 255, 256, 257, UINT32_MAX };
@@ -1523,7 +1523,7 @@ static void good_sheets(void)
     on_good_sheets(in_all_parts);
 }
 
-/* A sheet with every value at every byte. */
+/* A good sheet with every value at every byte. */
 static void at_every_byte(any_sheet s)
 {
     for (size_t at = 0; at < size_of(&s); at++) {

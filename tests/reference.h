@@ -1,4 +1,4 @@
-/* Document 01, with what has landed of document 02, once more, for the test and sharing nothing with the library: slow and plain. */
+/* Documents 01 and 02, as far as 02 has landed, written once more for the test, sharing nothing with the library: slow and plain. */
 #ifndef REFERENCE_H
 #define REFERENCE_H
 

@@ -436,7 +436,7 @@ def examined(order, sheet):
 
 def seven(order):
     """Five squares, and two in which the last digits to the base 4 are added in the field of four elements, and the rest modulo a quarter
-    of the order; in the second of them the columns are multiplied first, the digits by the field's element 2."""
+    of the order; in the second of them the columns are multiplied by 2 first, the digits in the field."""
     quarter = order // 4
     return [
         lambda i, j: i,

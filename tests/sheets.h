@@ -5,7 +5,7 @@
 
 #include "reference.h"
 
-/* A sheet and its order; there is room for one of order 66, and for bytes behind it. */
+/* A sheet and its order; there is room for one of order 65, and for bytes behind it. */
 typedef struct any_sheet {
     uint32_t order;
     uint8_t bytes[9216];
@@ -72,10 +72,10 @@ static any_sheet product(any_sheet a, any_sheet b)
     return s;
 }
 
-/* What a sheet of order u + k is made of: residues modulo u, and k extra numbers behind them, with u = 2k + 1 + 4w. The numbers are w
- * threes of residues and then k twos. */
+/* What a sheet of order u + k is made of (a quasi-difference matrix): residues modulo u, and k extra numbers behind them, with
+ * u = 2k + 1 + 4w. The numbers are w threes of residues and then k twos; extra is k and threes is w. */
 typedef struct differences {
-    uint32_t extra, whole;
+    uint32_t extra, threes;
     uint8_t numbers[64];
 } differences;
 
@@ -98,12 +98,12 @@ static any_sheet good(uint32_t order);
  * numbers among themselves have a sheet of their own. */
 static any_sheet by_differences(const differences *d)
 {
-    uint32_t u = 2 * d->extra + 1 + 4 * d->whole;
+    uint32_t u = 2 * d->extra + 1 + 4 * d->threes;
     const uint8_t *next = d->numbers;
     any_sheet s = empty(u + d->extra), corner = good(d->extra);
     for (uint32_t i = 0; i < u; i++)
         put(&s, i, i, i, i);
-    for (uint32_t i = 0; i < d->whole; i++, next += 3)
+    for (uint32_t i = 0; i < d->threes; i++, next += 3)
         put_fours(&s, u, 0, next[0], next[1], next[2]);
     for (uint32_t i = 0; i < d->extra; i++, next += 2)
         put_fours(&s, u, 0, next[0], next[1], u + i);
@@ -148,13 +148,13 @@ static any_sheet good(uint32_t order)
     if (n > 1)
         return order == 1u << n ? field(n) : product(field(n), linear(order >> n, 1, 1, 1, 2));
     for (size_t i = 0; i < sizeof found / sizeof found[0]; i++)
-        if (3 * found[i].extra + 1 + 4 * found[i].whole == order)
+        if (3 * found[i].extra + 1 + 4 * found[i].threes == order)
             return by_differences(&found[i]);
     return of_bose((order - 1) / 3);
 }
 
-/* The sheet with other parts: row, column, first symbol and second symbol of a site become those that the four numbers name. A good sheet
- * stays good. */
+/* A conjugate of the sheet: part i of a site, of its row, column, first and second symbol, becomes its part parts[i]. A good sheet stays
+ * good. */
 static any_sheet conjugate(any_sheet s, const uint32_t parts[4])
 {
     any_sheet t = empty(s.order);
@@ -166,7 +166,7 @@ static any_sheet conjugate(any_sheet s, const uint32_t parts[4])
     return t;
 }
 
-/* All 24 orders of four things. */
+/* One of the 24 orders of four things. */
 static void order_of_four(uint32_t index, uint32_t parts[4])
 {
     uint32_t left[4] = { 0, 1, 2, 3 };

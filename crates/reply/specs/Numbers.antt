@@ -56,6 +56,6 @@ numberOf BonderFull = 21
 numberOf OrderRange = 26
 -- a symbol of such a sheet not below its order (document 02, request l)
 numberOf SymbolRange = 27
--- a sheet whose symbols do not run once through every row and column, or in which some pair of symbols has not exactly one site: not two
+-- a sheet with a row or a column that is no permutation of the symbols, or with a pair of symbols that has not exactly one site: not two
 -- orthogonal Latin squares (document 02, request l)
 numberOf NotGraecoLatin = 28

@@ -12,7 +12,7 @@ use Rattle.sheets.specs.Replies.{checkSheetReply}
 abbrev linear : ℕ → ℕ → ℕ → ℕ → ℕ → List ℕ
 linear N a b c d = sheet N ((λ i j. (a * i + b * j) % N) ∷ (λ i j. (c * i + d * j) % N) ∷ [])
 
--- orders 3 and 5, bytes behind the sheet among them
+-- order 3, also with a byte behind the sheet; then order 5
 pub good : (map (checkSheetReply 3) (linear 3 1 1 1 2 ∷ (linear 3 1 1 1 2 ++ 255 ∷ []) ∷ [])) ≡ served [] ∷ served [] ∷ []
 unfolding checkSheetReply outside sheet shown
 good = refl

@@ -1,5 +1,6 @@
 -- The order in which the sites are put into the sets, two rows at a time, column by column, and of an odd order the last row twice: item s
--- is in rows 2 (s / 2N) and the next, column (s % 2N) / 2. Each site is an item, so that the sets are those of all sites.
+-- is in row 2 (s / 2N) + s % 2, or in the last one where there is no such row, and in column (s % 2N) / 2. Each site is some item, so that
+-- the sets are those of all sites.
 use mathlib.Core.Bool.{cond}
 use mathlib.Core.Path.{_≡_, ap, _∙_}
 use Prim.Native.Nat.{ℕ, zero, suc, _+_, _-_, _*_, _/_, _%_, _≤_, _<_, min}

@@ -1,4 +1,5 @@
--- What a sheet in range gives: the bytes of a site are there and are symbols below 64, so that they can be put into sets of 64 bits.
+-- What a sheet in range gives: the bytes of a site are there and are symbols below 64, so that they fit into sets of 64 bits. Then what one
+-- turn of `two_rows` adds to its sets and tables.
 use mathlib.Core.Bool.{true, _&&_}
 use mathlib.Core.List.{List}
 use mathlib.Core.Path.{_≡_, refl, sym, ap, ap₂, _∙_}

@@ -104,7 +104,7 @@ met-full test h k m below =
     tried : ℕ → Bool
     tried v = leb 1 (countBelow k (λ i. test i && eqb (h i) v))
 
--- N symbols of which none below N is missing run once through them.
+-- N symbols of which none below N is missing are a permutation.
 pub some-once : (N : ℕ) (h : ℕ → ℕ) → allBelow N (λ v. leb 1 (countBelow N (λ i. eqb (h i) v))) ≡ isPermutation N h
 some-once N h =
     same-truth _ _

@@ -12,7 +12,7 @@ use lib.ListN.{length, getD, replicate, length-set, getD-replicate}
 use lib.Seq.{getD-set-same, getD-set-other}
 use borrow.Author.Tests.{eq-eqb, ne-eqb}
 use Rattle.sheets.specs.Counting.{countBelow, allBelow}
-use Rattle.sheets.specs.Inner.{metBelow, added, pairsPut}
+use Rattle.sheets.specs.Inner.{metBelow, allFull, added, pairsPut}
 use Rattle.sheets.proofs.Below.{all-same}
 use Rattle.sheets.proofs.Sets.{met-full}
 
@@ -30,7 +30,7 @@ pairs-append table a (suc b) first second first′ second′ fs ss =
     )
 
 module _ (first second : ℕ → ℕ) where
-  pub length-put : (table : List ℕ) (k : ℕ) → length (pairsPut table k first second) ≡ length table
+  length-put : (table : List ℕ) (k : ℕ) → length (pairsPut table k first second) ≡ length table
   length-put table zero = refl
   length-put table (suc k) = length-set (pairsPut table k first second) (first k) _ ∙ length-put table k
 
@@ -63,7 +63,7 @@ module _ (first second : ℕ → ℕ) where
 
   -- the first sets of a table, empty before k pairs were put, are full exactly where no pair below N is missing
   pub table-some : (N k : ℕ) → N ≤ 64 → ((s : ℕ) → s < k → first s < N) → ((s : ℕ) → s < k → second s < N)
-      → allBelow N (λ a. eqb (getD (pairsPut (replicate 64 0) k first second) a 0) (2 ^ N - 1))
+      → allFull N (pairsPut (replicate 64 0) k first second)
       ≡ allBelow N (λ a. allBelow N (λ b. leb 1 (countBelow k (λ s. eqb (first s) a && eqb (second s) b))))
   table-some N k few inside below =
       all-same _ _ N

@@ -3,36 +3,33 @@
 use mathlib.Core.Bool.{Bool, true, false, _&&_, and-false}
 use mathlib.Core.List.{List}
 use mathlib.Core.Path.{_≡_, refl, sym, ap, _∙_}
-use Prim.Native.Nat.{ℕ, _+_, _-_, _*_, _/_, _%_, _^_, _≤_, _<_, min}
+use Prim.Native.Nat.{ℕ, _+_, _-_, _*_, _/_, _%_, _≤_, _<_, min}
 use native.Mathlib.Decide.{decLt}
 use native.Mathlib.Omega.{arith}
-use lib.Dec.{eqb}
-use lib.ListN.{getD, replicate}
+use lib.ListN.{replicate}
 use Rattle.squares.specs.Sheets.{shown}
 use Rattle.sheets.specs.Counting.{allBelow, isPermutation, isOrthogonal, isGraecoLatin}
-use Rattle.sheets.specs.Inner.{InRange, rowPermutes, byTurns, pairsPut}
+use Rattle.sheets.specs.Inner.{InRange, rowPermutes, byTurns, allFull, pairsPut}
 use Rattle.sheets.proofs.Below.{both-true, all-true, all-fails, all-both}
 use Rattle.sheets.proofs.Items.{colOf}
-use Rattle.sheets.proofs.Complete.{of, itemsPut, none-put, items-next, column-next, symbol-next, columns-full, pairs-full}
+use Rattle.sheets.proofs.Complete.{symbolOf, itemsPut, none-put, items-next, column-next, symbol-next, columns-full, pairs-full}
 
 -- What is known after the first rows, an even number of them; of an odd order the last counts as two.
 pub record RowsPut (N : ℕ) (bytes firsts seconds pairs : List ℕ) (rows : ℕ) : Type 0 where
-  pub most : rows ≤ N + 1
   pub even : rows % 2 ≡ 0
   pub permute : (row : ℕ) → row < rows → row < N → rowPermutes N bytes row ≡ true
-  pub of-first : firsts ≡ itemsPut N bytes (colOf N) (of N bytes 0) rows
-  pub of-second : seconds ≡ itemsPut N bytes (colOf N) (of N bytes 1) rows
-  pub of-both : pairs ≡ itemsPut N bytes (of N bytes 0) (of N bytes 1) rows
+  pub of-first : firsts ≡ itemsPut N bytes (colOf N) (symbolOf N bytes 0) rows
+  pub of-second : seconds ≡ itemsPut N bytes (colOf N) (symbolOf N bytes 1) rows
+  pub of-both : pairs ≡ itemsPut N bytes (symbolOf N bytes 0) (symbolOf N bytes 1) rows
 
 module _ (N : ℕ) (bytes : List ℕ) where
   pub no-rows : RowsPut N bytes (replicate 64 0) (replicate 64 0) (replicate 64 0) 0
   no-rows = record {
-    most = omega arith;
     even = refl;
     permute = λ row h _. absurd (omega arith);
-    of-first = none-put N bytes (colOf N) (of N bytes 0);
-    of-second = none-put N bytes (colOf N) (of N bytes 1);
-    of-both = none-put N bytes (of N bytes 0) (of N bytes 1);
+    of-first = none-put N bytes (colOf N) (symbolOf N bytes 0);
+    of-second = none-put N bytes (colOf N) (symbolOf N bytes 1);
+    of-both = none-put N bytes (symbolOf N bytes 0) (symbolOf N bytes 1);
   }
 
   module _ {row next : ℕ} (inside : row < N) (is : next ≡ min (row + 1) (N - 1)) where
@@ -54,18 +51,17 @@ module _ (N : ℕ) (bytes : List ℕ) where
           → pairs′ ≡ pairsPut pairs (2 * N) (byTurns N bytes 0 row next) (byTurns N bytes 1 row next)
           → RowsPut N bytes firsts′ seconds′ pairs′ (row + 2)
       rows-next e f g p = record {
-        most = omega arith;
         even = let even = put .even in omega arith;
         permute = λ i h hN. tried i h hN (decLt i row);
-        of-first = items-next N bytes row (put .even) (colOf N) (of N bytes 0) (put .of-first) f columns (symbols 0);
-        of-second = items-next N bytes row (put .even) (colOf N) (of N bytes 1) (put .of-second) g columns (symbols 1);
-        of-both = items-next N bytes row (put .even) (of N bytes 0) (of N bytes 1) (put .of-both) p (symbols 0) (symbols 1);
+        of-first = items-next N bytes row (put .even) (colOf N) (symbolOf N bytes 0) (put .of-first) f columns (symbols 0);
+        of-second = items-next N bytes row (put .even) (colOf N) (symbolOf N bytes 1) (put .of-second) g columns (symbols 1);
+        of-both = items-next N bytes row (put .even) (symbolOf N bytes 0) (symbolOf N bytes 1) (put .of-both) p (symbols 0) (symbols 1);
       }
         where
           columns : (i : ℕ) → i < 2 * N → i / 2 ≡ colOf N (row * N + i)
           columns = column-next N bytes row (put .even)
 
-          symbols : (k i : ℕ) → i < 2 * N → byTurns N bytes k row next i ≡ of N bytes k (row * N + i)
+          symbols : (k i : ℕ) → i < 2 * N → byTurns N bytes k row next i ≡ symbolOf N bytes k (row * N + i)
           symbols k = symbol-next N bytes row (put .even) k inside is
 
           both : (rowPermutes N bytes row ≡ true) × (rowPermutes N bytes next ≡ true)
@@ -102,12 +98,8 @@ module _ (N : ℕ) (bytes : List ℕ) where
       pairs : Bool
       pairs = isOrthogonal N (shown 2 N 0 bytes) (shown 2 N 1 bytes)
 
-  -- the sets of a table are full
-  abbrev pub full : List ℕ → Bool
-  full table = allBelow N (λ a. eqb (getD table a 0) (2 ^ N - 1))
-
   pub all-rows : InRange N bytes → {firsts seconds pairs : List ℕ} (rows : ℕ) → N ≤ rows → RowsPut N bytes firsts seconds pairs rows
-      → isGraecoLatin N (shown 2 N 0 bytes) (shown 2 N 1 bytes) ≡ (full firsts && full seconds && full pairs)
+      → isGraecoLatin N (shown 2 N 0 bytes) (shown 2 N 1 bytes) ≡ (allFull N firsts && allFull N seconds && allFull N pairs)
   all-rows in-range rows all put =
       in-turn
       ∙ rw (

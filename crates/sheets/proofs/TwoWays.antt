@@ -40,7 +40,7 @@ sum-is (suc m) (suc x) =
     rw (eqb·suc-zero x, later, leb·suc-suc (suc x) m) (zero-add (flag (ltb x m)))
 
 -- The counts of all values below m, of those numbers that pass a test.
-pub sum-counts : (m k : ℕ) (test : ℕ → Bool) (h : ℕ → ℕ)
+sum-counts : (m k : ℕ) (test : ℕ → Bool) (h : ℕ → ℕ)
     → sumBelow m (λ v. countBelow k (λ i. test i && eqb (h i) v)) ≡ countBelow k (λ i. test i && ltb (h i) m)
 sum-counts m zero test h = sum-constant m 0 ∙ mul-zero m
 sum-counts m (suc k) test h =
@@ -51,7 +51,7 @@ sum-counts m (suc k) test h =
     last true = sum-is m (h k)
     last false = sum-constant m 0 ∙ mul-zero m
 
--- Values of w and more that add up to no more than w each are w.
+-- m numbers, none below w, with a sum of at most m × w, are all w.
 module _ (w : ℕ) where
   sum-least : (m : ℕ) (c : ℕ → ℕ) → ((v : ℕ) → v < m → w ≤ c v) → m * w ≤ sumBelow m c
   sum-least zero c least = omega (arith, zero-mul w)

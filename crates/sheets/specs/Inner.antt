@@ -1,5 +1,5 @@
--- How a sheet is checked: lines, and sets of the numbers met, bit v for v. No public contract speaks of it.
-use Prim.Native.Nat.{ℕ, zero, suc, _*_, _/_, _%_, _^_, _≤_, _<_}
+-- How a sheet is checked: rows, two at a time, and sets of the symbols met, bit v for symbol v. No public contract speaks of it.
+use Prim.Native.Nat.{ℕ, zero, suc, _-_, _*_, _/_, _%_, _^_, _≤_, _<_}
 use mathlib.Core.Bool.{Bool, cond, _&&_}
 use mathlib.Core.List.{List}
 use mathlib.Core.Path.{_≡_}
@@ -7,7 +7,7 @@ use lib.Bits.{bitOr}
 use lib.Dec.{eqb}
 use lib.ListN.{length, getD, set}
 use Rattle.squares.specs.Sheets.{shown}
-use Rattle.sheets.specs.Counting.{isPermutation}
+use Rattle.sheets.specs.Counting.{allBelow, isPermutation}
 
 -- A sheet whose bytes are all there and all symbols, so that they can be members of sets.
 pub record InRange (N : ℕ) (bytes : List ℕ) : Type 0 where
@@ -32,6 +32,10 @@ pub record Singles (N : ℕ) (sets : List ℕ) : Type 0 where
 abbrev pub metBelow : ℕ → (ℕ → Bool) → (ℕ → ℕ) → ℕ
 metBelow zero test h = 0
 metBelow (suc k) test h = cond (test k) (bitOr (metBelow k test h) (2 ^ h k)) (metBelow k test h)
+
+-- The first sets of a table, as many as the order, have all symbols below it.
+abbrev pub allFull : ℕ → List ℕ → Bool
+allFull N table = allBelow N (λ a. eqb (getD table a 0) (2 ^ N - 1))
 
 -- The members of one set added to set number a of a table.
 abbrev pub added : List ℕ → ℕ → ℕ → List ℕ

@@ -10,9 +10,9 @@ ghost use Rattle.poly.specs.Replies.{checkedReply};
 ghost use Rattle.squares.specs.Sheets.{shown};
 ghost use Rattle.sheets.specs.Counting.{allBelow, isGraecoLatin};
 ghost use Rattle.sheets.specs.Replies.{checkSheetReply};
-ghost use Rattle.sheets.specs.Inner.{InRange, Singles, rowPermutes, byTurns, added, pairsPut};
+ghost use Rattle.sheets.specs.Inner.{InRange, Singles, rowPermutes, byTurns, allFull, added, pairsPut};
 
-// The check of a sheet of an order from 3 to 64, two bytes a site, row by row.
+// The check of a sheet of an order from 3 to 64, two bytes a site, row by row. Bytes behind it are not looked at.
 pub fn check_sheet(order: u32, sheet: &[u8]) -> Checked
     ensures { λ r. ⌜ checkedReply r ≡ checkSheetReply order (now (sheet .entry)) ⌝ }
 {
@@ -22,15 +22,15 @@ pub fn check_sheet(order: u32, sheet: &[u8]) -> Checked
     if 64 < order {
         return Checked::Refused(Refusal::OrderRange);
     }
-    let many = order as usize;
-    let size = 2 * (many * many);
+    let side = order as usize;
+    let size = 2 * (side * side);
     if sheet.len() < size {
         return Checked::Refused(Refusal::SliceLength);
     }
     if !all_symbols(order as u8, size, sheet) {
         return Checked::Refused(Refusal::SymbolRange);
     }
-    if !graeco_latin(many, sheet) {
+    if !graeco_latin(side, sheet) {
         return Checked::Refused(Refusal::NotGraecoLatin);
     }
     Checked::Passed
@@ -52,7 +52,7 @@ fn all_symbols(order: u8, size: usize, sheet: &[u8]) -> bool
     good
 }
 
-// Whether both squares are Latin and the two are orthogonal. Symbols that were met are sets, a bit for each: N symbols below N are a
+// Whether both squares are Latin and the two are orthogonal. The symbols met are kept as sets, a bit for each: N symbols below N are a
 // permutation where none is missing from their set, and N × N sites show each pair once where no pair is missing. A column has a set of
 // first and one of second symbols, and each first symbol a set of those that were met beside it. Of an odd order the last row is put
 // twice, which no set shows.
@@ -60,7 +60,7 @@ fn graeco_latin(order: usize, sheet: &[u8]) -> bool
     requires { ⌜ InRange order (now sheet) ⌝ }
     ensures { λ r. ⌜ r ≡ isGraecoLatin order (shown 2 order 0 (now (sheet .entry))) (shown 2 order 1 (now (sheet .entry))) ⌝ }
 {
-    let one = singles(order);
+    let single = singles(order);
     let mut firsts = [0u64; 64];
     let mut seconds = [0u64; 64];
     let mut pairs = [0u64; 64];
@@ -72,7 +72,7 @@ fn graeco_latin(order: usize, sheet: &[u8]) -> bool
             sheet,
             row,
             next,
-            &one,
+            &single,
             &mut firsts,
             &mut seconds,
             &mut pairs,
@@ -106,7 +106,7 @@ fn singles(order: usize) -> [u64; 64]
 
 // The next row, or the same one if it is the last.
 fn row_after(order: usize, row: usize) -> usize
-    requires { ⌜ (row < order) × (order ≤ 64) ⌝ }
+    requires { ⌜ row < order ⌝ }
     ensures { λ r. ⌜ r ≡ min (row + 1) (order - 1) ⌝ }
 {
     if row + 1 < order {
@@ -115,19 +115,19 @@ fn row_after(order: usize, row: usize) -> usize
     row
 }
 
-// Whether two rows have permutations of the symbols, of the first square and of the second; and their symbols are put into the sets. Two at
-// once, so that the sets of a column are read and written once for both.
+// Whether two rows are permutations of the symbols, in both squares; and their symbols are put into the tables, whatever the answer. Two at
+// once: of a column both symbols go into the same set, which the compiler then reads and writes once.
 fn two_rows(
     order: usize,
     sheet: &[u8],
     row: usize,
     next: usize,
-    one: &[u64; 64],
+    single: &[u64; 64],
     firsts: &mut [u64; 64],
     seconds: &mut [u64; 64],
     pairs: &mut [u64; 64],
 ) -> bool
-    requires { ⌜ InRange order (now sheet) × (row < order) × (next < order) × Singles order (now one) ⌝ }
+    requires { ⌜ InRange order (now sheet) × (row < order) × (next < order) × Singles order (now single) ⌝ }
     ensures { λ r. ⌜ r ≡ (rowPermutes order (now (sheet .entry)) row && rowPermutes order (now (sheet .entry)) next) ⌝ }
     ensures { λ _.
         ⌜ now (firsts .exit) ≡ pairsPut (now (firsts .entry)) (2 * order) (λ j. j / 2)
@@ -140,37 +140,37 @@ fn two_rows(
         (byTurns order (now (sheet .entry)) 1 row next) ⌝ }
 {
     let start = row * order;
-    let below = next * order;
-    // The sets of the one row's first and second symbols, and of the other's.
-    let mut fs: u64 = 0;
-    let mut gs: u64 = 0;
-    let mut hs: u64 = 0;
-    let mut ks: u64 = 0;
+    let start_next = next * order;
+    // The sets of the first and the second symbols of the one row, and of the next.
+    let mut first: u64 = 0;
+    let mut second: u64 = 0;
+    let mut first_next: u64 = 0;
+    let mut second_next: u64 = 0;
     let mut col: usize = 0;
     while col < order {
         let at = 2 * (start + col);
-        let to = 2 * (below + col);
-        let f = sheet[at] as usize;
-        let g = sheet[at + 1] as usize;
-        let h = sheet[to] as usize;
-        let k = sheet[to + 1] as usize;
-        let f1 = one[f];
-        let g1 = one[g];
-        let h1 = one[h];
-        let k1 = one[k];
-        fs = fs | f1;
-        gs = gs | g1;
-        hs = hs | h1;
-        ks = ks | k1;
-        put_two(firsts, col, f1, col, h1);
-        put_two(seconds, col, g1, col, k1);
-        put_two(pairs, f, g1, h, k1);
+        let at_next = 2 * (start_next + col);
+        let a = sheet[at] as usize;
+        let b = sheet[at + 1] as usize;
+        let c = sheet[at_next] as usize;
+        let d = sheet[at_next + 1] as usize;
+        let of_a = single[a];
+        let of_b = single[b];
+        let of_c = single[c];
+        let of_d = single[d];
+        first = first | of_a;
+        second = second | of_b;
+        first_next = first_next | of_c;
+        second_next = second_next | of_d;
+        put_two(firsts, col, of_a, col, of_c);
+        put_two(seconds, col, of_b, col, of_d);
+        put_two(pairs, a, of_b, c, of_d);
         col += 1;
     }
-    if !both_full(order, fs, gs) {
+    if !both_full(order, first, second) {
         return false;
     }
-    both_full(order, hs, ks)
+    both_full(order, first_next, second_next)
 }
 
 // Adds x to set number a of a table, then y to set number b.
@@ -202,10 +202,10 @@ fn both_full(order: usize, first: u64, second: u64) -> bool
     second == all
 }
 
-// Whether the first sets of a table, as many as the order, have all symbols.
+// Whether the first sets of a table, as many as the order, have all symbols. It goes on behind one that has not, as `all_symbols` does.
 fn all_full(order: usize, table: &[u64; 64]) -> bool
     requires { ⌜ (1 ≤ order) × (order ≤ 64) ⌝ }
-    ensures { λ r. ⌜ r ≡ allBelow order (λ a. eqb (getD (now (table .entry)) a 0) (2 ^ order - 1)) ⌝ }
+    ensures { λ r. ⌜ r ≡ allFull order (now (table .entry)) ⌝ }
 {
     let all = full(order);
     let mut good = true;

@@ -1,4 +1,4 @@
--- `full` meets its contract: of 64 ones the order is left.
+-- `full` meets its contract: of 64 ones as many as the order are left.
 use mathlib.Core.Path.{_≡_, ap, _∙_}
 use Prim.Native.Nat.{ℕ, _+_, _-_, _*_, _/_, _^_}
 use native.Mathlib.Omega.{arith}

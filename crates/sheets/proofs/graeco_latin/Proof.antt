@@ -6,7 +6,8 @@ use native.Mathlib.Omega.{arith}
 use borrow.Author.Tests.{not-true, not-false}
 use Rattle.squares.specs.Sheets.{shown}
 use Rattle.sheets.specs.Counting.{isGraecoLatin}
-use Rattle.sheets.proofs.Together.{RowsPut, no-rows, next-lt, row-fails, rows-next, in-turn, full, all-rows}
+use Rattle.sheets.specs.Inner.{allFull}
+use Rattle.sheets.proofs.Together.{RowsPut, no-rows, next-lt, row-fails, rows-next, in-turn, all-rows}
 use Rattle.sheets.proofs.graeco_latin.Statement.{statement}
 use Rattle.sheets.proofs.graeco_latin.Tie as tie
 
@@ -23,7 +24,7 @@ loop-holds : tie.Need-loop-holds Inv-loop μ-loop
 loop-holds c = let a = c .before .before .args in no-rows (a .order) (a .sheet .now)
 
 row-after-requires : tie.Need-row-after-requires Inv-loop μ-loop
-row-after-requires c κs = (c .loop-test .taken, c .before .before .before .before .pre .few)
+row-after-requires c κs = c .loop-test .taken
 
 two-rows-requires : tie.Need-two-rows-requires Inv-loop μ-loop
 two-rows-requires c κs =
@@ -57,8 +58,8 @@ worked : (c : tie.After-loop Inv-loop μ-loop) →
     let a = c .before .before .before .before .args in
     let sets = c .before .loop in
     isGraecoLatin (a .order) (shown 2 (a .order) 0 (a .sheet .now)) (shown 2 (a .order) 1 (a .sheet .now))
-    ≡ (full (a .order) (a .sheet .now) (sets .firsts) && full (a .order) (a .sheet .now) (sets .seconds)
-    && full (a .order) (a .sheet .now) (sets .pairs))
+    ≡ (allFull (a .order) (sets .firsts) && allFull (a .order) (sets .seconds)
+    && allFull (a .order) (sets .pairs))
 worked c =
     let start = c .before .before .before .before in
     all-rows (start .args .order) (start .args .sheet .now) (start .pre) (c .before .loop .row) (c .loop-test .left) (c .before .loop .inv)
