@@ -1,8 +1,8 @@
 /*
- * Times the library's calls beside plain C of the same jobs, and prints the tables. All inputs are prepared before the clock starts, but for
- * the few walks that a job lends to its many calls; inputs and results stay in the same memory, so that caches are warm. In each round the
- * library and the plain C work on the same inputs, one after the other, so that load on the machine hits both; a line shows the medians of
- * the rounds. Before a job is timed, both answer each of its inputs and the answers are compared, every byte of them. The answers are
+ * Times the library's calls beside plain C of the same jobs, and prints the tables. All inputs are prepared before the clock starts, but
+ * for the few walks that a job lends to its many calls; inputs and results stay in the same memory, so that caches are warm. In each round
+ * the library and the plain C work on the same inputs, one after the other, so that load on the machine hits both; a line shows the medians
+ * of the rounds. Before a job is timed, both answer each of its inputs and the answers are compared, every byte of them. The answers are
  * global memory, so that no call can be left out.
  */
 #define _POSIX_C_SOURCE 199309L
@@ -14,7 +14,7 @@
 #include <time.h>
 
 enum { ROUNDS = 101, LIST_ROUNDS = 9, INPUTS = 32768, TRIALS = 1024, LIST_DEGREE = 11, SHEET_DEGREE = 6, SIDES = 2, LIST_PAIRS = 699050,
-       WALKS = 16 };
+       WALKS = 16, SHEETS = 16 };
 
 enum { LIBRARY, PLAIN };
 
@@ -47,9 +47,10 @@ typedef struct Answer {
     _Alignas(64) uint8_t bytes[DW_SHEET3_ROOM];
 } Answer;
 
-static uint32_t degree;
+static uint32_t degree, order;
 static Input inputs[INPUTS];
 static Trial trials[TRIALS];
+static _Alignas(64) uint8_t sheets[SHEETS][DW_SHEET_ROOM];
 Answer answers[SIDES];
 static uint32_t list[2 * LIST_PAIRS], shuffled[LIST_PAIRS];
 
@@ -105,6 +106,32 @@ static void prepare_triples(void)
         in->position = random_below(plain_all_triples[degree]);
         plain_triple_at(degree, in->position, &in->f, &in->g, &in->h);
     }
+}
+
+/* Sheets to check, of an order that is 2^degree times an odd number: direct products of sheets of the odd number, which are sums modulo it,
+ * with sheets of random pairs. At degree 0 the sums are all. */
+static void make_sheets(void)
+{
+    uint32_t odd = order >> degree, low = (1u << degree) - 1;
+    uint8_t part[DW_SHEET_ROOM] = {0};
+    if (degree > 0)
+        prepare_random();
+    for (uint32_t i = 0; i < SHEETS; i++) {
+        if (degree > 0)
+            plain_sheet(degree, inputs[i].f, inputs[i].g, part, sizeof part);
+        for (uint32_t at = 0; at < order * order; at++) {
+            uint32_t row = at / order, col = at % order, sum = (row >> degree) + (col >> degree), more = sum + (col >> degree);
+            const uint8_t *site = part + 2 * ((row & low) << degree | (col & low));
+            sheets[i][2 * at] = (uint8_t)((sum + i) % odd << degree | site[0]);
+            sheets[i][2 * at + 1] = (uint8_t)(more % odd << degree | site[1]);
+        }
+    }
+}
+
+static void prepare_sheets(void)
+{
+    order = 1u << degree;
+    make_sheets();
 }
 
 /* Two random odd codes, with or without a common factor. */
@@ -193,6 +220,7 @@ static uint32_t (*const go_back[SIDES])(dw_walk *, uint32_t) = {dw_go_back, plai
 static uint32_t (*const site[SIDES])(uint32_t, uint32_t, uint32_t, uint32_t, uint32_t, uint32_t *, uint32_t *) = {dw_site, plain_site};
 static uint32_t (*const sheet[SIDES])(uint32_t, uint32_t, uint32_t, uint8_t *, size_t) = {dw_sheet, plain_sheet};
 static uint32_t (*const sheet3[SIDES])(uint32_t, uint32_t, uint32_t, uint32_t, uint8_t *, size_t) = {dw_sheet3, plain_sheet3};
+static uint32_t (*const check_sheet[SIDES])(uint32_t, const uint8_t *, size_t) = {dw_check_sheet, plain_check_sheet};
 static uint32_t (*const read_file[SIDES])(const uint8_t *, size_t, uint16_t *, size_t, uint16_t *, size_t, uint16_t *, size_t, uint32_t *,
                                           uint32_t *, uint32_t *, size_t *, size_t *, uint32_t *, uint32_t *) = {dw_read, plain_read};
 static uint32_t (*const write_file[SIDES])(uint32_t, uint32_t, uint32_t, uint32_t, uint32_t, const uint16_t *, size_t, const uint16_t *,
@@ -365,6 +393,13 @@ static void run_sheet3(int side, size_t from, size_t to)
         a->status = sheet3[side](degree, inputs[i].f, inputs[i].g, inputs[i].h, a->bytes, sizeof a->bytes);
 }
 
+static void run_check_sheet(int side, size_t from, size_t to)
+{
+    Answer *a = &answers[side];
+    for (size_t i = from; i < to; i++)
+        a->status = check_sheet[side](order, sheets[i % SHEETS], sizeof sheets[i % SHEETS]);
+}
+
 static inline void read_version(uint32_t version, int side, Answer *a, size_t from, size_t to)
 {
     for (size_t i = from; i < to; i++)
@@ -448,6 +483,7 @@ static const Job jobs[] = {
     {"triple at, random", prepare_triples, run_triple_at, INPUTS, 1, GOAL},
     {"sheet", prepare_random, run_sheet, TRIALS, 1, GOAL},
     {"sheet3", prepare_triples, run_sheet3, TRIALS, 4, GOAL},
+    {"check sheet", prepare_sheets, run_check_sheet, TRIALS, 1, GOAL},
     {"read", prepare_trials, run_read, TRIALS, 1, GOAL},
     {"write", prepare_trials, run_write, TRIALS, 1, GOAL},
     {"read, shuffled", prepare_shuffled, run_read, TRIALS, 1, GOAL},
@@ -733,6 +769,22 @@ static Kept show_kept(void)
     return kept;
 }
 
+/* Sheets to check of orders that are no powers of two, with the exponent of two in each; gives the worst ratio. */
+static double show_orders(void)
+{
+    static const Job job = {"check sheet of another order", make_sheets, run_check_sheet, TRIALS, 0, 0};
+    static const uint32_t others[][2] = {{5, 0}, {12, 2}, {63, 0}};
+    double worst = 0;
+    printf("\n| order | check sheet ns | plain C ns | ratio |\n|---|---|---|---|\n");
+    for (int i = 0; i < 3; i++) {
+        order = others[i][0];
+        Line line = measure(&job, others[i][1]);
+        printf("| %" PRIu32 " | %.1f | %.1f | %.2f |\n", order, line.library, line.plain, line.ratio);
+        worst = line.ratio > worst ? line.ratio : worst;
+    }
+    return worst;
+}
+
 /* What a third code costs; gives the ratio of each job at the highest degree. Every call is served. */
 static void show_threes(double *ratios)
 {
@@ -765,7 +817,7 @@ static double longest_of(const Summary *summaries, void (*run)(int, size_t, size
     return summaries[job].longest;
 }
 
-static void show_goals(const Summary *summaries, double beyond, Kept kept, const double *threes)
+static void show_goals(const Summary *summaries, double beyond, Kept kept, double orders, const double *threes)
 {
     printf("\nThe worst ratio of each job, and its goal:\n\n");
     for (int job = 0; job < JOBS; job++)
@@ -774,6 +826,8 @@ static void show_goals(const Summary *summaries, double beyond, Kept kept, const
     show_goal("worst degree", beyond, 3);
     printf("\nA triple at a random position, in nanoseconds:\n\n");
     show_goal("degree 6", longest_of(summaries, run_triple_at), 110);
+    printf("\nA sheet to check of order 5, 12 or 63:\n\n");
+    show_goal("worst order", orders, GOAL);
     printf("\nThree codes to two, at degree %d:\n\n", SHEET_DEGREE);
     for (int i = 0; i < THREES; i++)
         show_goal(three_to_two[i].name, threes[i], three_to_two[i].goal);
@@ -797,11 +851,12 @@ int main(void)
     show_jobs(summaries);
     double beyond = show_second_list();
     Kept kept = show_kept();
+    double orders = show_orders();
     show_threes(threes);
     shuffle();
     compare_lists();
     time_lists();
     show_lists();
-    show_goals(summaries, beyond, kept, threes);
+    show_goals(summaries, beyond, kept, orders, threes);
     return 0;
 }

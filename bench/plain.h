@@ -22,6 +22,7 @@ static uint64_t plain_first[32][34];             /* by degree n and k: the posit
 static uint32_t plain_coprimes[64];              /* by half a code of degree n, rounded down: bit k is 1 if 2^n + 2k + 1 is coprime to it */
 static uint32_t plain_triples[64];               /* by the same half: triples that begin with the code */
 static uint32_t plain_all_triples[7];            /* by degree: all triples */
+static uint64_t plain_bits[64];                  /* by symbol: the set of it alone, a bit for each symbol */
 
 /* Row m of the tables, from the row before it. */
 static void plain_row(uint32_t m)
@@ -109,6 +110,8 @@ static void plain_tables(void)
         plain_row(m);
     for (uint32_t n = 2; n < 7; n++)
         plain_triple_row(n);
+    for (uint32_t symbol = 0; symbol < 64; symbol++)
+        plain_bits[symbol] = UINT64_C(1) << symbol;
 }
 
 /* Euclid's quotients, and how many; the last divisor goes to *divisor. */
@@ -532,6 +535,57 @@ PLAIN_CALL plain_sheet3(uint32_t n, uint32_t f, uint32_t g, uint32_t h, uint8_t 
     for (uint32_t bit = 0; bit < n; bit++)
         plain_double3(sheet, (size_t)3 << (n + bit), plain_part3(n, f, g, h, bit, 0));
     return DW_SERVED;
+}
+
+/* Which symbols came: in each column, of the first square and of the second; and of the second beside each symbol of the first. */
+typedef struct plain_sets {
+    uint64_t cols[64][2], pairs[64];
+} plain_sets;
+
+/* Puts two rows into the sets, so that those of the columns are read and written once for both. Whether each row has all symbols. */
+static inline int plain_two_rows(plain_sets *sets, const uint8_t *one, const uint8_t *other, size_t order, uint64_t all)
+{
+    uint64_t rows[2][2] = {{0, 0}, {0, 0}};
+    for (size_t col = 0; col < order; col++, one += 2, other += 2) {
+        const uint64_t a[2] = {plain_bits[one[0]], plain_bits[one[1]]}, b[2] = {plain_bits[other[0]], plain_bits[other[1]]};
+        for (int square = 0; square < 2; square++) {
+            rows[0][square] |= a[square];
+            rows[1][square] |= b[square];
+            sets->cols[col][square] |= a[square] | b[square];
+        }
+        sets->pairs[one[0]] |= a[1];
+        sets->pairs[other[0]] |= b[1];
+    }
+    return (rows[0][0] & rows[0][1] & rows[1][0] & rows[1][1]) == all;
+}
+
+/* Whether all bytes are below a limit, by the highest, which the compiler takes of 16 at once. */
+static inline int plain_below(const uint8_t *bytes, size_t count, uint32_t limit)
+{
+    uint8_t most = 0;
+    for (size_t i = 0; i < count; i++)
+        most = bytes[i] > most ? bytes[i] : most;
+    return most < limit;
+}
+
+/* Of an odd order the last row is put into the sets twice, which they do not show. */
+PLAIN_CALL plain_check_sheet(uint32_t order, const uint8_t *sheet, size_t length)
+{
+    size_t n = order;
+    plain_sets sets = {0};
+    if (n < 3 || n > 64)
+        return DW_REFUSED_ORDER_RANGE;
+    if (length < 2 * n * n)
+        return DW_REFUSED_SLICE_LENGTH;
+    if (!plain_below(sheet, 2 * n * n, order))
+        return DW_REFUSED_SYMBOL_RANGE;
+    uint64_t all = UINT64_MAX >> (64 - n), common = all;
+    for (size_t row = 0; row < n; row += 2)
+        if (!plain_two_rows(&sets, sheet + 2 * n * row, sheet + 2 * n * (row + 1 < n ? row + 1 : row), n, all))
+            return DW_REFUSED_NOT_GRAECO_LATIN;
+    for (size_t i = 0; i < n; i++)
+        common &= sets.cols[i][0] & sets.cols[i][1] & sets.pairs[i];
+    return common != all ? DW_REFUSED_NOT_GRAECO_LATIN : DW_SERVED;
 }
 
 /* The number at *at, which moves behind it. */

@@ -1,5 +1,5 @@
 /* A console's job: start a walk, draw pairs for two bonders, come back, make the sheet, write the trial file and read it back. Then a trial
- * of version 2, which has a bond time at each site as well. */
+ * of version 2, which has a bond time at each site as well; and a sheet that was made elsewhere, checked. */
 #include "dinnowell.h"
 
 #include <inttypes.h>
@@ -25,6 +25,16 @@ static int read_back(const uint8_t *file, size_t length)
         printf(", first time %u, third code %" PRIu32, (unsigned)levels[2][0], h);
     printf("\n");
     return 1;
+}
+
+/* Checks a sheet of order 5 that was made elsewhere, and says whether it passes. */
+static void check_made(const char *what, const uint8_t *sheet, size_t length)
+{
+    uint32_t status = dw_check_sheet(5, sheet, length);
+    if (status == DW_SERVED)
+        printf("%s: passed\n", what);
+    else
+        printf("%s: refused, number %" PRIu32 "\n", what, status);
 }
 
 int main(void)
@@ -69,5 +79,17 @@ int main(void)
         printf("%u mW %u mN %u.%u ms%s", (unsigned)powers[site[0]], (unsigned)forces[site[1]], time / 10, time % 10, col < 7 ? ", " : "\n");
     }
     status = dw_write(2, n, f, g, h, powers, 8, forces, 8, times, 8, name, sizeof name, file, sizeof file, &length);
-    return status == DW_SERVED && read_back(file, length) ? 0 : 1;
+    if (status != DW_SERVED || !read_back(file, length))
+        return 1;
+
+    /* Row + column, and row + twice the column, modulo 5; then with one symbol wrong. */
+    uint8_t made[2 * 5 * 5];
+    for (int site = 0; site < 25; site++) {
+        made[2 * site] = (uint8_t)((site / 5 + site % 5) % 5);
+        made[2 * site + 1] = (uint8_t)((site / 5 + 2 * (site % 5)) % 5);
+    }
+    check_made("a customer's sheet of order 5", made, sizeof made);
+    made[0] = 3;
+    check_made("the same with one power wrong", made, sizeof made);
+    return 0;
 }

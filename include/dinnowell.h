@@ -1,5 +1,6 @@
 /*
- * Dinnowell: coprime pairs and triples of binary polynomials, crossed squares, sheets and trial files for bonding trials.
+ * Dinnowell: coprime pairs and triples of binary polynomials, crossed squares, sheets and trial files for bonding trials; and a check of
+ * sheets made elsewhere.
  *
  * WHAT IT SPEAKS OF; docs/SCOPE.md has all of it in full.
  * A polynomial with coefficients 0 and 1 is a code: bit j is the coefficient of x^j, so 11 is x^3 + x + 1. Its degree is the highest power
@@ -14,6 +15,9 @@
  * n - 1 - i of the symbol is 1 if an odd number of the cells i + j are 1, over all j from 0 to n for which bit j of the code is 1. Laid
  * over each other, the squares of two codes of degree n show each pair of symbols at exactly one site if the codes are coprime, and only
  * then.
+ * A sheet has the symbols of two or three such squares, a byte each, site by site along one row after the other. A sheet made elsewhere,
+ * which need not come of codes, has two symbols a site and an order from 3 to 64: the number of its rows, of its columns, and of the
+ * symbols that each of its two squares has.
  * Positions, entries, rows, columns and symbols count from 0.
  * A trial of version 1 has two codes, f and g, and two lists of levels, powers and forces. One of version 2 has a third code, h, and a
  * third list, bond times; its codes are a triple, so its degree is 3 to 6. The format of a trial file, of either version, is in
@@ -44,7 +48,7 @@
 
 /* The version of this interface. MAJOR grows where a caller may have to change, MINOR where something is added. */
 #define DW_VERSION_MAJOR 6
-#define DW_VERSION_MINOR 0
+#define DW_VERSION_MINOR 1
 #define DW_VERSION (1000 * DW_VERSION_MAJOR + DW_VERSION_MINOR)
 
 /*
@@ -69,7 +73,7 @@ enum {
     DW_REFUSED_DEGREE_RANGE = 1,    /* degree outside 1 to 31 */
     DW_REFUSED_POSITION_RANGE = 2,  /* position not below the length of the list of pairs; for dw_unordered_pair_at, not below half of it */
     DW_REFUSED_WALK_RECORD = 3,     /* walk record: degree outside 1 to 31, position or set mark beyond the length, count above 10^18 */
-    DW_REFUSED_SLICE_LENGTH = 4,    /* memory too short for the results; for dw_write also a list of levels not of length 2^n */
+    DW_REFUSED_SLICE_LENGTH = 4,    /* memory too short for the results or a sheet to check; for dw_write also a list not of 2^n levels */
     DW_REFUSED_SITE_RANGE = 5,      /* row or column not below 2^n */
     /* Caused by who chooses polynomials. */
     DW_REFUSED_CODE_DEGREE = 6,     /* code not of degree n */
@@ -90,6 +94,10 @@ enum {
     DW_REFUSED_MARK_EMPTY = 19,     /* going back to an empty mark */
     DW_REFUSED_BONDER_RANGE = 20,   /* bonder above 7 */
     DW_REFUSED_BONDER_FULL = 21,    /* the bonder's count is DW_FULL_COUNT, and a pair is there to give */
+    /* Caused by who makes a sheet to check. */
+    DW_REFUSED_ORDER_RANGE = 26,    /* order outside 3 to 64 */
+    DW_REFUSED_SYMBOL_RANGE = 27,   /* symbol, anywhere in the sheet, not below the order */
+    DW_REFUSED_NOT_GRAECO_LATIN = 28, /* symbol twice in a row or a column of one of the two squares, or pair of symbols at two sites */
     /* No refusal: a walk is at the end of its list, or a position is not below the number of triples. */
     DW_SPENT = 255
 };
@@ -99,7 +107,7 @@ enum {
     DW_BONDERS = 8,         /* how many bonders draw from a walk, numbered from 0 */
     DW_CHAIN_ROOM = 32,     /* how many numbers dw_chain must be given room for */
     DW_LEVELS_ROOM = 64,    /* how many levels dw_read must be given room for, in each of three lists */
-    DW_SHEET_ROOM = 8192,   /* bytes that hold a sheet of two codes of any degree; degree n needs 2 * 4^n */
+    DW_SHEET_ROOM = 8192,   /* bytes that hold a sheet of two codes of any degree n, which needs 2 * 4^n, or one to check, 2 * order^2 */
     DW_SHEET3_ROOM = 12288, /* bytes that hold a sheet of three codes of any degree; degree n needs 3 * 4^n */
     DW_FILE_ROOM = 622,     /* bytes that hold any trial file; one of version 1 has at most 429 */
     DW_NAME_ROOM = 40,      /* bytes that hold any name, with no 0 behind it */
@@ -256,6 +264,19 @@ uint32_t dw_sheet(uint32_t n, uint32_t f, uint32_t g, uint8_t *sheet, size_t roo
  */
 DW_MUST_CHECK
 uint32_t dw_sheet3(uint32_t n, uint32_t f, uint32_t g, uint32_t h, uint8_t *sheet, size_t room);
+
+/*
+ * Checks a sheet made elsewhere, of an order from 3 to 64, which need not be a power of two. It has the layout of dw_sheet: two bytes a
+ * site, the first square's symbol and then the second's, row by row; row r and column c have bytes 2 * (r * order + c) and the next.
+ * length is how many bytes sheet points to; those behind the first 2 * order * order are not looked at. Nothing is written, on any answer.
+ * Served: the sheet passes; it is what is called a Graeco-Latin square. In each row and each column, each number below order comes once as
+ * the first square's symbol and once as the second's, and each pair of a first and a second symbol has exactly one site. A sheet that
+ * dw_sheet wrote passes at order 2^n; those of dw_sheet3 have another layout.
+ * Refused: ORDER_RANGE; SLICE_LENGTH if length is below 2 * order * order; SYMBOL_RANGE if any byte of the sheet is not below order,
+ * whatever else is wrong with it; NOT_GRAECO_LATIN if it does not pass.
+ */
+DW_MUST_CHECK
+uint32_t dw_check_sheet(uint32_t order, const uint8_t *sheet, size_t length);
 
 /*
  * Reads a trial file of either version, the length bytes of file. powers_room, forces_room and times_room are how many numbers powers,

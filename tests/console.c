@@ -4,6 +4,7 @@
  */
 #include "dinnowell.h"
 #include "reference.h"
+#include "sheets.h"
 
 #include <inttypes.h>
 #include <stdio.h>
@@ -21,9 +22,10 @@ CHECK(DW_REFUSED_SITE_RANGE == 5 && DW_REFUSED_CODE_DEGREE == 6 && DW_REFUSED_CO
 CHECK(DW_REFUSED_FILE_ENDS == 9 && DW_REFUSED_NUMBER_FORM == 10 && DW_REFUSED_VERSION == 11 && DW_REFUSED_SHEET_DEGREE == 12);
 CHECK(DW_REFUSED_LEVEL_RANGE == 13 && DW_REFUSED_LEVEL_REPEATED == 14 && DW_REFUSED_NAME_LENGTH == 15 && DW_REFUSED_NAME_BYTE == 16);
 CHECK(DW_REFUSED_TRAILING_BYTES == 17 && DW_REFUSED_MARK_RANGE == 18 && DW_REFUSED_MARK_EMPTY == 19 && DW_REFUSED_BONDER_RANGE == 20);
+CHECK(DW_REFUSED_ORDER_RANGE == 26 && DW_REFUSED_SYMBOL_RANGE == 27 && DW_REFUSED_NOT_GRAECO_LATIN == 28);
 CHECK(DW_REFUSED_BONDER_FULL == 21 && DW_MARKS == 8 && DW_BONDERS == 8 && DW_FULL_COUNT == UINT64_C(1000000000000000000));
 CHECK(DW_CHAIN_ROOM == 32 && DW_LEVELS_ROOM == 64 && DW_SHEET_ROOM == 8192 && DW_SHEET3_ROOM == 12288 && DW_FILE_ROOM == 622);
-CHECK(DW_NAME_ROOM == 40 && DW_STACK_ROOM == 8192 && DW_VERSION_MAJOR == 6 && DW_VERSION_MINOR == 0 && DW_VERSION == 6000);
+CHECK(DW_NAME_ROOM == 40 && DW_STACK_ROOM == 8192 && DW_VERSION_MAJOR == 6 && DW_VERSION_MINOR == 1 && DW_VERSION == 6001);
 
 enum { SEED = 20261115, GUARD = 64, LARGEST = 1 << 14, SLOTS = 16 };
 
@@ -1339,6 +1341,396 @@ static void damaged_files(void)
         damaged_everywhere(2, n);
 }
 
+/* A sheet made elsewhere, of which so many bytes are lent; gives what the call must answer. The call only reads. */
+static uint32_t check_lent(uint32_t order, const uint8_t *bytes, size_t length)
+{
+    uint32_t want = ref_check_sheet(order, bytes, length);
+    const uint8_t *sheet = (const uint8_t *)lend_copy(0, bytes, length);
+    count(dw_check_sheet(order, length == 0 && draw(2) ? NULL : sheet, length), want, "dw_check_sheet");
+    came_back(0, NULL, 0, "dw_check_sheet: sheet");
+    return want;
+}
+
+static uint32_t check(const any_sheet *s)
+{
+    return check_lent(s->order, s->bytes, size_of(s));
+}
+
+/* Ten changes to a good sheet, at random places. Each gives the number by which the sheet is then refused, 0 if it is as good as before. */
+static uint32_t rows_of_both(any_sheet *s)
+{
+    uint32_t a = draw(s->order), b = draw(s->order);
+    exchange_rows(s, a, b, 0);
+    exchange_rows(s, a, b, 1);
+    return 0;
+}
+
+static uint32_t cols_of_both(any_sheet *s)
+{
+    uint32_t a = draw(s->order), b = draw(s->order);
+    exchange_cols(s, a, b, 0);
+    exchange_cols(s, a, b, 1);
+    return 0;
+}
+
+static uint32_t new_parts(any_sheet *s)
+{
+    uint32_t parts[4];
+    order_of_four(draw(24), parts);
+    *s = conjugate(*s, parts);
+    return 0;
+}
+
+/* The symbols of one square renamed. */
+static uint32_t new_names(any_sheet *s)
+{
+    uint8_t names[64];
+    for (uint32_t i = 0; i < s->order; i++) {
+        uint32_t k = draw(i + 1);
+        names[i] = names[k];
+        names[k] = (uint8_t)i;
+    }
+    for (size_t i = draw(2); i < size_of(s); i += 2)
+        s->bytes[i] = names[s->bytes[i]];
+    return 0;
+}
+
+static uint32_t rows_of_one(any_sheet *s)
+{
+    uint32_t a = draw(s->order), b = draw(s->order);
+    exchange_rows(s, a, b, draw(2));
+    return a != b ? 28 : 0;
+}
+
+static uint32_t cols_of_one(any_sheet *s)
+{
+    uint32_t a = draw(s->order), b = draw(s->order);
+    exchange_cols(s, a, b, draw(2));
+    return a != b ? 28 : 0;
+}
+
+static uint32_t two_sites(any_sheet *s)
+{
+    uint32_t sites = s->order * s->order, a = 2 * draw(sites), b = 2 * draw(sites);
+    exchange(&s->bytes[a], &s->bytes[b]);
+    exchange(&s->bytes[a + 1], &s->bytes[b + 1]);
+    return a != b ? 28 : 0;
+}
+
+/* Two symbols of one square exchanged. */
+static uint32_t two_symbols(any_sheet *s)
+{
+    uint32_t sites = s->order * s->order, square = draw(2), a = 2 * draw(sites) + square, b = 2 * draw(sites) + square;
+    exchange(&s->bytes[a], &s->bytes[b]);
+    return s->bytes[a] != s->bytes[b] ? 28 : 0;
+}
+
+/* One symbol changed to any, or to one that a set of 64 bits or a comparison may take for it. */
+static uint32_t one_symbol(any_sheet *s)
+{
+    uint8_t *place = &s->bytes[draw((uint32_t)size_of(s))], right = *place;
+    const uint32_t wrong[8] = { draw(256), draw(s->order), right + 64u, right + 128u, right + 192u, s->order - 1, s->order, 255 };
+    *place = (uint8_t)wrong[draw(8)];
+    return *place >= s->order ? 27 : *place != right ? 28 : 0;
+}
+
+/* One symbol of a square called, wherever it stands, by a number that is not below the order. */
+static uint32_t one_name(any_sheet *s)
+{
+    uint32_t right = draw(s->order), order = s->order;
+    const uint32_t wrong[3] = { order, 255, order + draw(256 - order) };
+    uint8_t name = (uint8_t)wrong[draw(3)];
+    for (size_t i = draw(2); i < size_of(s); i += 2)
+        s->bytes[i] = s->bytes[i] == right ? name : s->bytes[i];
+    return 27;
+}
+
+/* Those that leave a good sheet good come first: two of them take symbols for indices, and a later change may put one beyond the order. */
+static uint32_t (*const changes[])(any_sheet *) = { new_parts, rows_of_both, cols_of_both, new_names, rows_of_one, cols_of_one, two_sites,
+                                                  two_symbols, one_name, one_symbol };
+enum { HARMLESS = 4, CHANGES = sizeof changes / sizeof changes[0] };
+
+/* A good sheet of an order, made once; at order 6, two Latin squares. */
+static any_sheet sheet_of(uint32_t order)
+{
+    static any_sheet made[65];
+    if (made[order].order == 0)
+        made[order] = order == 6 ? linear(6, 1, 1, 1, 5) : good(order);
+    return made[order];
+}
+
+/* An order outside 3 to 64; half of the time one whose low bits alone are those of a good order. */
+static uint32_t some_outside(uint32_t order)
+{
+    static const uint32_t outside[] = { 0, 1, 2, 65, 66, 255, 256, 257, UINT32_MAX };
+    return draw(2) ? outside[draw(9)] : order + (1u << (8 + draw(24)));
+}
+
+/* A sheet with some changes, of its own order or said to be of another, and lent with bytes behind it or too few. */
+static void try_check_sheet(void)
+{
+    uint32_t order = 3 + draw(draw(16) ? 14 : 62), said = draw(16) ? order : draw(2) ? some_outside(order) : 3 + draw(62);
+    any_sheet s = sheet_of(order);
+    for (uint32_t i = 0; i < CHANGES; i++)
+        if (draw(i < HARMLESS ? 2 : 8) == 0)
+            changes[i](&s);
+    uint32_t size = (uint32_t)size_of(&s);
+    for (uint32_t i = 0; i < 4; i++)
+        s.bytes[size + i] = (uint8_t)draw(256);
+    check_lent(said, s.bytes, draw(8) ? size + draw(5) : draw(2) ? size - 1 : draw(size));
+}
+
+/* A sheet that the library wrote. */
+static any_sheet ours(uint32_t n)
+{
+    any_sheet s = empty(1u << n);
+    uint32_t f, g;
+    ref_pair(n, draw64() % ref_length(n), &f, &g);
+    count(dw_sheet(n, f, g, s.bytes, size_of(&s)), 0, "good sheets: ours");
+    return s;
+}
+
+/* A job on good sheets: one of every order but 6, others by differences and by products, and ours of every degree. */
+static void on_good_sheets(void (*job)(any_sheet s))
+{
+    for (uint32_t order = 3; order <= 64; order++)
+        if (order != 6)
+            job(sheet_of(order));
+    for (uint32_t m = 3; m <= 21; m++)
+        if (m != 6)
+            job(of_bose(m));
+    for (uint32_t a = 3; a <= 16; a++)
+        for (uint32_t b = 3; a * b <= 64; b++)
+            if (a != 6 && b != 6)
+                job(product(sheet_of(a), sheet_of(b)));
+    for (uint32_t i = 0; i < 20; i++)
+        job(ours(2 + i % 5));
+}
+
+/* A good sheet passes in all orders of its parts, its squares exchanged and its rows for columns among them. */
+static void in_all_parts(any_sheet s)
+{
+    for (uint32_t i = 0; i < 24; i++) {
+        uint32_t parts[4];
+        order_of_four(i, parts);
+        any_sheet t = conjugate(s, parts);
+        expect(check(&t) == 0, "good sheets: served");
+    }
+}
+
+static void good_sheets(void)
+{
+    on_good_sheets(in_all_parts);
+}
+
+/* A good sheet with every value at every byte. */
+static void at_every_byte(any_sheet s)
+{
+    for (size_t at = 0; at < size_of(&s); at++) {
+        uint8_t right = s.bytes[at];
+        for (uint32_t value = 0; value < 256; value++) {
+            s.bytes[at] = (uint8_t)value;
+            expect(check(&s) == (value == right ? 0 : value < s.order ? 28 : 27), "changed sheets: byte");
+        }
+        s.bytes[at] = right;
+    }
+}
+
+/* Each change alone, several times, and the last one, of one symbol, many times. */
+static void after_each_change(any_sheet s)
+{
+    for (uint32_t i = 0; i < 5 * CHANGES + 40; i++) {
+        any_sheet t = s;
+        uint32_t want = changes[i < 5 * CHANGES ? i % CHANGES : CHANGES - 1](&t);
+        expect(check(&t) == want, "changed sheets: change");
+    }
+}
+
+static void changed_sheets(void)
+{
+    for (uint32_t order = 3; order <= 8; order++)
+        if (order != 6)
+            at_every_byte(sheet_of(order));
+    at_every_byte(ours(2));
+    at_every_byte(ours(3));
+    on_good_sheets(after_each_change);
+}
+
+/* A sheet that fails in one of the five ways alone, and each sheet that other parts make of it: all five ways come. */
+static void in_one_way(any_sheet s)
+{
+    static const uint32_t two[5][2] = { { 0, 2 }, { 0, 3 }, { 1, 2 }, { 1, 3 }, { 2, 3 } };
+    uint32_t way = (uint32_t)ref_degree(ref_faults(s.order, s.bytes)), met = 0;
+    for (uint32_t i = 0; i < 24; i++) {
+        uint32_t parts[4];
+        order_of_four(i, parts);
+        if ((parts[0] == two[way][0] && parts[1] == two[way][1]) || (parts[0] == two[way][1] && parts[1] == two[way][0]))
+            continue;
+        any_sheet t = conjugate(s, parts);
+        uint32_t faults = ref_faults(t.order, t.bytes);
+        expect(check(&t) == 28 && (faults & (faults - 1)) == 0, "ways to fail: one alone");
+        met |= faults;
+    }
+    expect(met == 31, "ways to fail: each");
+}
+
+/* The least that can fail: two columns of the second square. */
+static void in_two_columns(any_sheet s)
+{
+    for (uint32_t i = 0; i < 2; i++) {
+        any_sheet t = s;
+        uint32_t a = draw(s.order), b = (a + 1 + draw(s.order - 1)) % s.order;
+        exchange_cycle(&t, a, b, draw(s.order));
+        uint32_t faults = ref_faults(t.order, t.bytes);
+        expect(faults == 0 || faults == 8, "ways to fail: columns");
+        if (faults == 0)
+            expect(check(&t) == 0, "ways to fail: none");
+        else
+            in_one_way(t);
+    }
+}
+
+/* Every two odd codes of degrees 2 to 5: the library's sheet, or, where it has none, their two squares, whose pairs alone fail. */
+static void of_two_codes(void)
+{
+    for (uint32_t n = 2; n <= 5; n++)
+        for (uint32_t f = (1u << n) + 1; f < 2u << n; f += 2)
+            for (uint32_t g = (1u << n) + 1; g < 2u << n; g += 2) {
+                const uint32_t codes[2] = { f, g };
+                any_sheet s = empty(1u << n);
+                if (ref_coprime(n, f, g) == 0) {
+                    count(dw_sheet(n, f, g, s.bytes, size_of(&s)), 0, "ways to fail: ours");
+                    expect(check(&s) == 0, "ways to fail: coprime");
+                } else {
+                    ref_sheet(n, codes, 2, s.bytes);
+                    expect(check(&s) == 28 && ref_faults(s.order, s.bytes) == 16, "ways to fail: common factor");
+                }
+            }
+}
+
+/* A random Latin square of order 6, by random rows until one fits below those before it. */
+static void some_latin(any_sheet *s, uint32_t square)
+{
+    for (uint32_t row = 0, fits; row < 6; row += fits) {
+        fits = 1;
+        for (uint32_t col = 0; col < 6; col++) {
+            uint32_t k = draw(col + 1);
+            *symbol(s, row, col, square) = *symbol(s, row, k, square);
+            *symbol(s, row, k, square) = (uint8_t)col;
+        }
+        for (uint32_t i = 0; i < 6 * row; i++)
+            fits = fits && *symbol(s, i / 6, i % 6, square) != *symbol(s, row, i % 6, square);
+    }
+}
+
+/* Order 6 has no good sheet. Random symbols, two random Latin squares, and two that have 34 of the 36 pairs. */
+static void order_six(void)
+{
+    static const char near[] = "405124350213" "150450412332" "534205143021" "342543521100" "013312204554" "221031035445";
+    any_sheet s = empty(6);
+    for (uint32_t i = 0; i < 2000; i++) {
+        for (size_t k = 0; k < size_of(&s); k++)
+            s.bytes[k] = (uint8_t)draw(6);
+        expect(check(&s) == 28, "order 6: random");
+    }
+    for (uint32_t i = 0; i < 500; i++) {
+        some_latin(&s, 0);
+        some_latin(&s, 1);
+        expect(check(&s) == 28 && ref_faults(6, s.bytes) == 16, "order 6: Latin");
+    }
+    for (size_t k = 0; k < size_of(&s); k++)
+        s.bytes[k] = (uint8_t)(near[k] - '0');
+    in_one_way(s);
+}
+
+/* Every order with f = i + j and g = j, of which the columns of g alone fail, and with two equal squares, of which the pairs do. */
+static void ways_to_fail(void)
+{
+    for (uint32_t order = 3; order <= 64; order++) {
+        in_one_way(linear(order, 1, 1, 0, 1));
+        in_one_way(linear(order, 1, 1, 1, 1));
+    }
+    on_good_sheets(in_two_columns);
+    of_two_codes();
+    order_six();
+}
+
+/* A good sheet in memory that is too short, and with bytes behind it, which are not looked at. */
+static void of_many_lengths(any_sheet s)
+{
+    size_t size = size_of(&s);
+    const size_t less[] = { 0, 1, s.order, size / 4, size / 2, size - s.order, size - 2, size - 1 };
+    const uint8_t behind[] = { 0, 255, (uint8_t)s.order, (uint8_t)draw(256) };
+    expect(check_lent(s.order, s.bytes, size) == 0, "lengths: exact");
+    for (int i = 0; i < 8; i++)
+        expect(check_lent(s.order, s.bytes, less[i]) == 4, "lengths: too short");
+    for (int i = 0; i < 4; i++) {
+        memset(s.bytes + size, behind[i], sizeof s.bytes - size);
+        expect(check_lent(s.order, s.bytes, size + 1) == 0, "lengths: a byte behind");
+        expect(check_lent(s.order, s.bytes, sizeof s.bytes) == 0, "lengths: many behind");
+    }
+}
+
+/* A sheet for an order that is refused: at 1 and 65 one that is good at that order, at 2 two equal squares, else one of its low bits' order
+ * or of 64. */
+static any_sheet sheet_outside(uint32_t order)
+{
+    uint32_t low = order % 256;
+    if (order == 2)
+        return linear(2, 1, 1, 1, 1);
+    return order == 1 || order == 65 ? linear(order, 1, 1, 1, 2) : sheet_of(low >= 3 && low <= 64 ? low : 64);
+}
+
+/* Orders that are refused, whatever is lent: a sheet and more, just it, less, nothing; good, with a symbol too high, or all alike. */
+static void of_other_orders(void)
+{
+    static const uint32_t orders[] = { 0, 1, 2, 65, 66, 67, 127, 128, 255, 256, 257, 256 + 3, 256 + 5, 256 + 64, 512 + 5, 65536 + 5,
+                                       65536 + 64, (1u << 24) + 5, (1u << 31) + 5, UINT32_MAX - 250, UINT32_MAX };
+    for (size_t i = 0; i < sizeof orders / sizeof orders[0]; i++)
+        for (int kind = 0; kind < 3; kind++) {
+            any_sheet s = sheet_outside(orders[i]);
+            const size_t size = size_of(&s), lengths[] = { sizeof s.bytes, size, size - 1, 1, 0 };
+            s.bytes[0] = kind == 1 ? 255 : s.bytes[0];
+            memset(s.bytes, 0, kind == 2 ? size : 0);
+            for (int k = 0; k < 5; k++)
+                expect(check_lent(orders[i], s.bytes, lengths[k]) == 26, "orders: outside");
+        }
+}
+
+/* A good sheet with every choice of the four causes, of which the one that is looked for first refuses. The symbol that is not below the
+ * order is at one byte, and the other failure in the last row or the first, whichever is farther from it. */
+static void of_many_causes(any_sheet s, uint32_t at, uint32_t value)
+{
+    static const uint32_t numbers[4] = { 26, 4, 27, 28 };
+    uint32_t size = (uint32_t)size_of(&s), line = at < size / 2 ? size - 2 * s.order : 0;
+    for (uint32_t causes = 0; causes < 16; causes++) {
+        any_sheet t = s;
+        uint32_t order = causes & 1 ? some_outside(s.order) : s.order, want = 0;
+        if (causes & 8)
+            exchange(&t.bytes[line], &t.bytes[line + 2]);
+        if (causes & 4)
+            t.bytes[at] = (uint8_t)value;
+        for (int i = 3; i >= 0; i--)
+            want = causes >> i & 1 ? numbers[i] : want;
+        expect(check_lent(order, t.bytes, size - (causes & 2 ? 1 + draw(2) * draw(size) : 0)) == want, "causes: the first refuses");
+    }
+}
+
+static void orders_and_lengths(void)
+{
+    for (uint32_t order = 3; order <= 64; order++)
+        if (order != 6) {
+            uint32_t size = 2 * order * order;
+            const uint32_t places[] = { 0, 1, size / 2, size - 2, size - 1 };
+            of_many_lengths(sheet_of(order));
+            for (int i = 0; i < 5; i++) {
+                of_many_causes(sheet_of(order), places[i], order);
+                of_many_causes(sheet_of(order), places[i], 255);
+            }
+        }
+    of_other_orders();
+}
+
 /* A pointer whose length is 0 may be null, in every call that takes one; a name of length 0 is served, and at version 1 no times. */
 static void null_pointers(void)
 {
@@ -1352,6 +1744,8 @@ static void null_pointers(void)
     count(dw_chain(2, 7, 5, NULL, 0, &size, &n), 4, "null: quotients");
     count(dw_sheet(2, 7, 5, NULL, 0), 4, "null: sheet");
     count(dw_sheet3(3, 9, 11, 13, NULL, 0), 4, "null: sheet of three");
+    count(dw_check_sheet(3, NULL, 0), 4, "null: sheet to check");
+    count(dw_check_sheet(0, NULL, 0), 26, "null: sheet of order 0");
     count(dw_read(NULL, 0, powers, 64, forces, 64, times, 64, &n, &f, &g, &at, &size, &v, &h), 9, "null: file to read");
     count(dw_read(file, room, NULL, 0, forces, 64, times, 64, &n, &f, &g, &at, &size, &v, &h), 4, "null: powers to read");
     count(dw_read(file, room, powers, 64, NULL, 0, times, 64, &n, &f, &g, &at, &size, &v, &h), 4, "null: forces to read");
@@ -1454,11 +1848,15 @@ int main(int argc, char **argv)
     part("two damages", two_damages, 1, 6, 17, four);
     part("damaged files", damaged_files, 1, 6, 17, 0);
     part("repeated levels", repeated_levels, 1, 14, 14, bit(7) | bit(9));
-    part("null pointers", null_pointers, 1, 2, 2, four | bit(9));
+    part("null pointers", null_pointers, 1, 2, 2, four | bit(9) | bit(26));
     part("kept record", kept_record, 1, 3, 3, spent);
     part("marks at the end", marks_at_the_end, 1, 18, 19, bit(3) | spent);
     part("full counts", full_counts, 1, 18, 21, bit(3) | spent);
     part("wrong pairs", wrong_pairs, 1, 18, 21, spent);
+    part("good sheets", good_sheets, 1, 0, 0, 0);
+    part("changed sheets", changed_sheets, 1, 27, 28, 0);
+    part("ways to fail", ways_to_fail, 1, 28, 28, 0);
+    part("orders and lengths", orders_and_lengths, 1, 26, 28, four);
     part("dw_length", try_length, 100 * scale, 1, 1, 0);
     part("dw_pair_at", try_pair_at, 300 * scale, 1, 2, 0);
     part("dw_unordered_pair_at", try_unordered_pair_at, 300 * scale, 1, 2, 0);
@@ -1470,6 +1868,7 @@ int main(int argc, char **argv)
     part("dw_site", try_site, 300 * scale, 5, 7, one);
     part("dw_sheet", try_sheet, 20 * scale, 6, 8, four | twelve);
     part("dw_sheet3", try_sheet3, 20 * scale, 6, 8, four | twelve);
+    part("dw_check_sheet", try_check_sheet, 50 * scale, 26, 28, four);
     part("the walk", try_walk, 50 * scale, 18, 21, one | bit(3) | spent);
     part("whole walks", try_whole_walk, scale, 18, 20, spent);
     part("dw_write", try_write, 200 * scale, 14, 16, four | codes | bit(11) | twelve);

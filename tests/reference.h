@@ -1,4 +1,4 @@
-/* Document 01, with what has landed of document 02, once more, written for the test and sharing nothing with the library: slow and plain. */
+/* Documents 01 and 02, as far as 02 has landed, written once more for the test, sharing nothing with the library: slow and plain. */
 #ifndef REFERENCE_H
 #define REFERENCE_H
 
@@ -238,6 +238,43 @@ static size_t ref_sheet(uint32_t n, const uint32_t *codes, int many, uint8_t *sh
             for (int i = 0; i < many; i++)
                 sheet[put++] = (uint8_t)ref_symbol(n, codes[i], row, col);
     return put;
+}
+
+/* In which of five ways a sheet of symbols below its order fails, as bits: rows of the first square, rows of the second, columns of the
+ * first, columns of the second, pairs. Everything that should come once is counted. */
+static uint32_t ref_faults(uint32_t order, const uint8_t *sheet)
+{
+    static uint32_t counts[5][64][64];
+    uint32_t faults = 0;
+    for (int way = 0; way < 5; way++)
+        for (uint32_t i = 0; i < order; i++)
+            memset(counts[way][i], 0, order * sizeof counts[way][i][0]);
+    for (uint32_t row = 0; row < order; row++)
+        for (uint32_t col = 0; col < order; col++) {
+            uint32_t first = *sheet++, second = *sheet++;
+            counts[0][row][first]++;
+            counts[1][row][second]++;
+            counts[2][col][first]++;
+            counts[3][col][second]++;
+            counts[4][first][second]++;
+        }
+    for (int way = 0; way < 5; way++)
+        for (uint32_t i = 0; i < order; i++)
+            for (uint32_t k = 0; k < order; k++)
+                faults |= counts[way][i][k] != 1 ? 1u << way : 0;
+    return faults;
+}
+
+static uint32_t ref_check_sheet(uint32_t order, const uint8_t *sheet, size_t length)
+{
+    if (order < 3 || order > 64)
+        return 26;
+    if (length < 2 * order * order)
+        return 4;
+    for (uint32_t i = 0; i < 2 * order * order; i++)
+        if (sheet[i] >= order)
+            return 27;
+    return ref_faults(order, sheet) != 0 ? 28 : 0;
 }
 
 /* A file's content; the name is a part of the file. */

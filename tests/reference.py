@@ -1,12 +1,13 @@
 #!/usr/bin/env python3
 """The values that the crate compare must print, computed another way: polynomials are sets of exponents in the arithmetic, lists of pairs
-and of triples are filtered by plain Euclid, the pairs sorted by the key that document 01's order gives, sites are worked cell by cell, and
-trial files are read by a reader written from the documents. Run it to make crates/compare/stdout.
+and of triples are filtered by plain Euclid, the pairs sorted by the key that document 01's order gives, sites are worked cell by cell,
+sheets made elsewhere are judged by sorted rows and columns and by the set of their pairs, and trial files are read by a reader written from
+the documents. Run it to make crates/compare/stdout.
 
 With an argument the lists go up to that degree: reference.py 10"""
 import sys
 from functools import cache
-from itertools import combinations
+from itertools import combinations, product
 from math import comb
 
 
@@ -132,9 +133,13 @@ def sites():
     return total
 
 
+# A degree and a coprime pair for each sheet.
+PAIRS = [(2, 7, 5), (3, 15, 13), (4, 19, 17), (5, 37, 59), (6, 67, 97)]
+
+
 def sheets():
     total = 0
-    for n, f, g in [(2, 7, 5), (3, 15, 13), (4, 19, 17), (5, 37, 59), (6, 67, 97)]:
+    for n, f, g in PAIRS:
         for row in range(2**n):
             for col in range(2**n):
                 total = mixed(total, symbol(n, f, row, col), symbol(n, g, row, col))
@@ -384,6 +389,83 @@ def sheets3():
     print("sheet3 refused", mixed(0, 12, 12, 6, 7, 6, 7, 6, 7, 8, 8, 8, 8))
 
 
+def judged(order, sheet):
+    """What is said of a sheet that was made elsewhere, in the words of request l: 0, or the number that it is turned away with."""
+    if not 3 <= order <= 64:
+        return 26
+    if len(sheet) < 2 * order**2:
+        return 4
+    symbols = list(range(order))
+    sites = list(zip(sheet[0 : 2 * order**2 : 2], sheet[1 : 2 * order**2 : 2]))
+    if not set().union(*sites) <= set(symbols):
+        return 27
+    rows = [sites[start : start + order] for start in range(0, order**2, order)]
+    lines = [*rows, *zip(*rows)]
+    latin = all(sorted(run) == symbols for line in lines for run in zip(*line))
+    return 0 if latin and len(set(sites)) == order**2 else 28
+
+
+def laid(order, first, second):
+    """The sheet of two squares in 8200 bytes, with 255 behind it."""
+    sheet = [square(row, col) % order for row in range(order) for col in range(order) for square in (first, second)]
+    return (sheet + [255] * 8200)[:8200]
+
+
+def replaced(sheet, *changes):
+    changed = list(sheet)
+    for place, byte in changes:
+        changed[place] = byte
+    return changed
+
+
+def examined(order, sheet):
+    """The sheet with bytes behind it. Of the orders 1 to 64 also alone; one byte short; so with a byte that is no symbol; with no bytes.
+    With a byte raised by one modulo the order, set to the order, set to 255: the last one, then some spread over the sheet. With bytes
+    exchanged: two sites of a row, their second symbols, two sites of a column, two rows, the first symbols of two sites in two rows."""
+    yield sheet
+    if 1 <= order <= 64:
+        size, row = 2 * order**2, 2 * order
+        yield from (sheet[:size], sheet[: size - 1], [255, *sheet[1 : size - 1]], [])
+        for place in (size - 1, *range(0, size, size // 14 * 2 + 1)):
+            for byte in ((sheet[place] + 1) % order, order, 255):
+                yield replaced(sheet, (place, byte))
+        rows = [(at, row + at) for at in range(row)]
+        for places in ([(0, 2), (1, 3)], [(1, 3)], rows[:2], rows, [(0, 2), (row, row + 2)]):
+            yield replaced(sheet, *((at, sheet[other]) for two in places for at, other in (two, two[::-1])))
+
+
+def seven(order):
+    """Five squares, and two in which the last digits to the base 4 are added in the field of four elements, and the rest modulo a quarter
+    of the order; in the second of them the columns are multiplied by 2 first, the digits in the field."""
+    quarter = order // 4
+    return [
+        lambda i, j: i,
+        lambda i, j: j,
+        lambda i, j: i + j,
+        lambda i, j: i + 2 * j,
+        lambda i, j: 2 * i + j,
+        lambda i, j: (i // 4 + j // 4) % quarter * 4 + (i ^ j) % 4,
+        lambda i, j: (i // 4 + j // 4 * 2) % quarter * 4 + (i % 4 ^ (0, 2, 3, 1)[j % 4]),
+    ]
+
+
+def made():
+    """For each order a checksum of what is said of the sheets of every two of five squares, and of one sheet with its changes. Then one of
+    a sheet of order 5 as one of three orders above 64, and one of sheets that the library writes with the same changes."""
+    for order in range(67):
+        squares = seven(order)
+        sheets = [laid(order, *two) for two in product(squares[:5], repeat=2)]
+        sheets += examined(order, laid(order, *(squares[2:4] if order % 4 else squares[5:])))
+        print("made", order, mixed(0, *(judged(order, sheet) for sheet in sheets)))
+    five = laid(5, *seven(5)[2:4])
+    print("made far", mixed(0, *(judged(order, five) for order in (2**8 + 5, 2**16 + 5, 2**32 - 2**8 + 5))))
+    total = 0
+    for n, *codes in PAIRS:
+        whole = laid(2**n, *(lambda row, col, code=code: symbol(n, code, row, col) for code in codes))
+        total = mixed(total, *(judged(2**n, sheet) for sheet in examined(2**n, whole)))
+    print("made written", total)
+
+
 def walks():
     """For each degree a checksum of what a start and 3000 calls answer, each with the next pair after it, and of the position and the counts
     after all: the calls draw for the bonders 0 to 8 in turn, but for every sixteenth, which sets one of the marks 0 to 8, and every 64th,
@@ -434,6 +516,7 @@ if __name__ == "__main__":
     unordered()
     triples()
     sheets3()
+    made()
     walks()
     print(spread(), 101)
     print(damaged(FILES))

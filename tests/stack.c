@@ -100,6 +100,11 @@ static void calls_sheet3(void)
     status = dw_sheet3(n, f, g, h, sheet, sizeof sheet);
 }
 
+static void calls_check_sheet(void)
+{
+    status = dw_check_sheet(1u << n, sheet, sizeof sheet);
+}
+
 static void calls_read(void)
 {
     status = dw_read(file, length, powers, DW_LEVELS_ROOM, forces, DW_LEVELS_ROOM, times, DW_LEVELS_ROOM, &first, &f, &g, &offset, &count,
@@ -151,13 +156,14 @@ static struct {
     { "dw_triple_at", calls_triple_at, 0 }, { "dw_sheet3", calls_sheet3, 0 },
     /* With a degree of sheets, and for files a version. */
     { "dw_write", calls_write, 0 }, { "dw_read", calls_read, 0 }, { "dw_sheet", calls_sheet, 0 },
+    { "dw_check_sheet", calls_check_sheet, 0 },
 };
 enum { PLACED = 3, OF_TRIPLES = 13, OF_SHEETS = 15, CALLS = sizeof calls / sizeof calls[0] };
 
 static int served = 1;
 
-/* Some of the calls one after the other; those that take codes take the pair of dw_pair_at or the triple of dw_triple_at, and dw_read takes
- * what dw_write wrote. */
+/* Some of the calls one after the other; those that take codes take the pair of dw_pair_at or the triple of dw_triple_at, dw_read takes
+ * what dw_write wrote, and dw_check_sheet what dw_sheet wrote. */
 static void measure(size_t from, size_t to)
 {
     for (size_t i = from; i < to; i++) {

@@ -5,7 +5,7 @@ use crate::random::mixed;
 use crate::random::next;
 use crate::random::odd_code;
 
-fn checked(answer: poly::Checked) -> u64 {
+pub fn checked(answer: poly::Checked) -> u64 {
     match answer {
         poly::Checked::Passed => 0,
         poly::Checked::Refused(refusal) => refusal.number() as u64,

@@ -2,6 +2,7 @@
 mod checks;
 mod files;
 mod lists;
+mod made;
 mod random;
 mod walks;
 
@@ -165,6 +166,20 @@ fn sheet3_lines() {
     }
 }
 
+// Order and checksum of the replies to sheets of that order; orders below 3 and above 64 are refused throughout.
+fn made_line(order: u32) {
+    io::write_all(STDOUT_FILENO, b"made ");
+    number(order as u64);
+    io::write_all(STDOUT_FILENO, b" ");
+    line(made::made_sum(order));
+}
+
+fn made_lines() {
+    for order in 0..67u32 {
+        made_line(order);
+    }
+}
+
 // Degree and checksum of a walk with marks and bonders; degrees 0 and 32 are refused throughout.
 fn walk_line(n: u32) {
     io::write_all(STDOUT_FILENO, b"walk ");
@@ -196,6 +211,11 @@ fn main() {
     sheet3_lines();
     io::write_all(STDOUT_FILENO, b"sheet3 refused ");
     line(checks::refused3_sum());
+    made_lines();
+    io::write_all(STDOUT_FILENO, b"made far ");
+    line(made::far_sum());
+    io::write_all(STDOUT_FILENO, b"made written ");
+    line(made::written_sum());
     walk_lines();
     number(lists::spread_sum());
     io::write_all(STDOUT_FILENO, b" ");

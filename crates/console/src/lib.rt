@@ -3,7 +3,7 @@
 mod chains;
 mod files;
 mod lists;
-mod sheets;
+mod sites;
 mod walks;
 
 // What a call returns that says spent.

@@ -16,12 +16,13 @@ pub fn degree_of(code: u32) -> u32
     31 - u32::leading_zeros(code)
 }
 
-// Whether a code may stand at degree n. The degree itself is not judged here: at 0 the code 1 passes, above 31 every code gets 6.
+// What a check answers.
 pub enum Checked {
     Passed,
     Refused(Refusal),
 }
 
+// Whether a code may stand at degree n. The degree itself is not judged here: at 0 the code 1 passes, above 31 every code gets 6.
 pub fn check(n: u32, code: u32) -> Checked
     ensures { λ r. ⌜ checkedReply r ≡ checkReply n code ⌝ }
 {

@@ -6,6 +6,7 @@ use Rattle.reply.specs.declared.Refusal.the-variants.{CodeDegree, Consta
 use Rattle.reply.specs.declared.Refusal.the-variants.{FileEnds, NumberForm, Version, SheetDegree, LevelRange, LevelRepeated}
 use Rattle.reply.specs.declared.Refusal.the-variants.{NameLength, NameByte, TrailingBytes}
 use Rattle.reply.specs.declared.Refusal.the-variants.{MarkRange, MarkEmpty, BonderRange, BonderFull}
+use Rattle.reply.specs.declared.Refusal.the-variants.{OrderRange, SymbolRange, NotGraecoLatin}
 
 abbrev pub numberOf : Refusal → ℕ
 -- degree outside 1 to 31 (sheet, list of triples: 12 instead)
@@ -51,3 +52,10 @@ numberOf MarkEmpty = 19
 numberOf BonderRange = 20
 -- the bonder's count is 1000000000000000000 and a pair is there to give (document 02, request g)
 numberOf BonderFull = 21
+-- order of a sheet made elsewhere outside 3 to 64 (document 02, request l)
+numberOf OrderRange = 26
+-- a symbol of such a sheet not below its order (document 02, request l)
+numberOf SymbolRange = 27
+-- a sheet with a row or a column that is no permutation of the symbols, or with a pair of symbols that has not exactly one site: not two
+-- orthogonal Latin squares (document 02, request l)
+numberOf NotGraecoLatin = 28

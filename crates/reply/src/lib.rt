@@ -28,6 +28,10 @@ pub enum Refusal {
     MarkEmpty,
     BonderRange,
     BonderFull,
+    // Caused by who makes a sheet to check.
+    OrderRange,
+    SymbolRange,
+    NotGraecoLatin,
 }
 
 impl Refusal {
@@ -57,6 +61,9 @@ impl Refusal {
             Refusal::MarkEmpty => 19,
             Refusal::BonderRange => 20,
             Refusal::BonderFull => 21,
+            Refusal::OrderRange => 26,
+            Refusal::SymbolRange => 27,
+            Refusal::NotGraecoLatin => 28,
         }
     }
 }

@@ -3,8 +3,8 @@ use mathlib.Core.Path.{_∙_}
 use borrow.Author.Needs.{needs}
 use Rattle.squares.specs.Replies.{symbolsReply}
 use Rattle.console.proofs.Told.{told, returned, holds}
-use Rattle.console.proofs.sheets.dw_site.Statement.{statement}
-use Rattle.console.proofs.sheets.dw_site.Tie as tie
+use Rattle.console.proofs.sites.dw_site.Statement.{statement}
+use Rattle.console.proofs.sites.dw_site.Tie as tie
 
 returns : tie.Need-returns
 returns c =

@@ -1,10 +1,12 @@
 // Sites and sheets, for C.
+use poly::Checked;
 use squares::Laid;
 use squares::Symbols;
 ghost use mathlib.Core.Path.{_≡_};
 ghost use lib.ListN.{length};
 ghost use Rattle.console.specs.Status.{status, value};
 ghost use Rattle.squares.specs.Replies.{siteReply, sheetReply, sheetBytes, sheet3Reply, sheet3Bytes};
+ghost use Rattle.sheets.specs.Replies.{checkSheetReply};
 
 // Both symbols at a site.
 #[no_mangle]
@@ -55,5 +57,17 @@ pub extern "C" fn dw_sheet3(n: u32, f: u32, g: u32, h: u32, out: &mut [u8]) -> u
     match answer {
         Laid::Refused(refusal) => refusal.number(),
         Laid::Done => 0,
+    }
+}
+
+// Whether a sheet of any order from 3 to 64 is two orthogonal Latin squares laid together.
+#[no_mangle]
+pub extern "C" fn dw_check_sheet(order: u32, sheet: &[u8]) -> u32
+    ensures { λ r. ⌜ r ≡ status (checkSheetReply order (now (sheet .entry))) ⌝ }
+{
+    let answer = sheets::check_sheet(order, sheet);
+    match answer {
+        Checked::Refused(refusal) => refusal.number(),
+        Checked::Passed => 0,
     }
 }

@@ -1,0 +1,12 @@
+pub mod Below
+pub mod TwoWays
+pub mod Sets
+pub mod Tables
+pub mod Items
+pub mod Reading
+pub mod Complete
+pub mod Together
+pub mod Unique
+pub mod Meaning
+pub mod Claims
+pub mod Examples

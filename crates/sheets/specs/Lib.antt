@@ -1,0 +1,4 @@
+pub mod Counting
+pub mod Replies
+pub mod Claims
+pub mod Inner
