@@ -38,6 +38,13 @@ typedef struct Trial {
     size_t name_length, lengths[2];
 } Trial;
 
+/* A walk and its files: of kind 1 and of kind 2. */
+typedef struct Saved {
+    dw_walk walk;
+    uint8_t files[2][DW_SAVED_ROOM];
+    size_t lengths[2];
+} Saved;
+
 /* What a call answers, and the memory that it is lent, which both sides have at the same place of a cache line. */
 typedef struct Answer {
     uint32_t status, version, degree, codes[3], next[2], divisor, quotients[DW_CHAIN_ROOM];
@@ -50,6 +57,7 @@ typedef struct Answer {
 static uint32_t degree, order;
 static Input inputs[INPUTS];
 static Trial trials[TRIALS];
+static Saved saved[TRIALS];
 static _Alignas(64) uint8_t sheets[SHEETS][DW_SHEET_ROOM];
 Answer answers[SIDES];
 static uint32_t list[2 * LIST_PAIRS], shuffled[LIST_PAIRS];
@@ -204,6 +212,35 @@ static void prepare_shuffled2(void)
     make_trials(0, 2);
 }
 
+/* Walks with all marks set and counts up to full, which are long in a file, and their files. */
+static void make_saved(void)
+{
+    for (size_t i = 0; i < TRIALS; i++) {
+        Saved *s = &saved[i];
+        s->walk = (dw_walk){degree, inputs[i].position, {0}, {0}, 0, 0};
+        for (size_t k = 0; k < DW_MARKS; k++) {
+            s->walk.marks[k] = random_below(plain_first[degree][degree + 1]) + 1;
+            s->walk.counts[k] = random_below(DW_FULL_COUNT + 1);
+        }
+        uint8_t *end = plain_put(plain_put(plain_put(s->files[0], 1), degree), s->walk.position);
+        s->lengths[0] = (size_t)(end - s->files[0]);
+        plain_save(&s->walk, s->files[1], sizeof s->files[1], &s->lengths[1]);
+    }
+}
+
+static void prepare_saved(void)
+{
+    prepare_random();
+    make_saved();
+}
+
+/* At positions that go up one by one, as those of a walk that is saved after each draw. */
+static void prepare_saved_rising(void)
+{
+    prepare_rising();
+    make_saved();
+}
+
 /* The calls of both sides, and for each job a loop over a range of the inputs. */
 static uint32_t (*const pair_at[SIDES])(uint32_t, uint64_t, uint32_t *, uint32_t *) = {dw_pair_at, plain_pair_at};
 static uint32_t (*const unordered_pair_at[SIDES])(uint32_t, uint64_t, uint32_t *, uint32_t *) = {dw_unordered_pair_at,
@@ -217,6 +254,9 @@ static uint32_t (*const look[SIDES])(const dw_walk *, uint32_t *, uint32_t *) = 
 static uint32_t (*const draw[SIDES])(dw_walk *, uint32_t, uint32_t *, uint32_t *) = {dw_draw, plain_draw};
 static uint32_t (*const set_mark[SIDES])(dw_walk *, uint32_t) = {dw_set_mark, plain_set_mark};
 static uint32_t (*const go_back[SIDES])(dw_walk *, uint32_t) = {dw_go_back, plain_go_back};
+static uint32_t (*const save[SIDES])(const dw_walk *, uint8_t *, size_t, size_t *) = {dw_save, plain_save};
+static uint32_t (*const load[SIDES])(const uint8_t *, size_t, dw_walk *) = {dw_load, plain_load};
+static uint32_t (*const load_rising[SIDES])(const uint8_t *, size_t, dw_walk *) = {dw_load, plain_load_rising};
 static uint32_t (*const site[SIDES])(uint32_t, uint32_t, uint32_t, uint32_t, uint32_t, uint32_t *, uint32_t *) = {dw_site, plain_site};
 static uint32_t (*const sheet[SIDES])(uint32_t, uint32_t, uint32_t, uint8_t *, size_t) = {dw_sheet, plain_sheet};
 static uint32_t (*const sheet3[SIDES])(uint32_t, uint32_t, uint32_t, uint32_t, uint8_t *, size_t) = {dw_sheet3, plain_sheet3};
@@ -372,6 +412,45 @@ static void run_go_back(int side, size_t from, size_t to)
     run_marks(go_back[side], &answers[side], from, to);
 }
 
+static void run_save(int side, size_t from, size_t to)
+{
+    Answer *a = &answers[side];
+    for (size_t i = from; i < to; i++)
+        a->status = save[side](&saved[i].walk, a->bytes, DW_SAVED_ROOM, &a->count);
+}
+
+typedef uint32_t load_call(const uint8_t *, size_t, dw_walk *);
+
+/* Over sixteen walks in turn, as a start. */
+static inline void load_kind(load_call *call, size_t kind, int side, size_t from, size_t to)
+{
+    Answer *a = &answers[side];
+    memset(walks, 90, sizeof walks);
+    for (size_t i = from; i < to; i++)
+        a->status = call(saved[i].files[kind - 1], saved[i].lengths[kind - 1], &walks[i % WALKS]);
+    keep_walk(a, &walks[from % WALKS]);
+}
+
+static void run_load(int side, size_t from, size_t to)
+{
+    load_kind(load[side], 2, side, from, to);
+}
+
+static void run_load1(int side, size_t from, size_t to)
+{
+    load_kind(load[side], 1, side, from, to);
+}
+
+static void run_load_rising(int side, size_t from, size_t to)
+{
+    load_kind(load_rising[side], 2, side, from, to);
+}
+
+static void run_load1_rising(int side, size_t from, size_t to)
+{
+    load_kind(load_rising[side], 1, side, from, to);
+}
+
 static void run_site(int side, size_t from, size_t to)
 {
     Answer *a = &answers[side];
@@ -479,6 +558,11 @@ static const Job jobs[] = {
     {"draw", prepare_rising, run_draw, INPUTS, 0, GOAL},
     {"set mark", prepare_random, run_set_mark, INPUTS, 0, GOAL},
     {"go back", prepare_random, run_go_back, INPUTS, 0, GOAL},
+    {"save", prepare_saved, run_save, TRIALS, 0, GOAL},
+    {"load", prepare_saved, run_load, TRIALS, 0, GOAL},
+    {"load, kind 1", prepare_saved, run_load1, TRIALS, 0, GOAL},
+    {"load, rising", prepare_saved_rising, run_load_rising, TRIALS, 0, GOAL},
+    {"load, kind 1, rising", prepare_saved_rising, run_load1_rising, TRIALS, 0, GOAL},
     {"site", prepare_random, run_site, INPUTS, 0, GOAL},
     {"triple at, random", prepare_triples, run_triple_at, INPUTS, 1, GOAL},
     {"sheet", prepare_random, run_sheet, TRIALS, 1, GOAL},

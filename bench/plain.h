@@ -588,37 +588,54 @@ PLAIN_CALL plain_check_sheet(uint32_t order, const uint8_t *sheet, size_t length
     return common != all ? DW_REFUSED_NOT_GRAECO_LATIN : DW_SERVED;
 }
 
-/* The number at *at, which moves behind it. */
-static inline uint32_t plain_number(const uint8_t **at, const uint8_t *end, uint32_t *number)
+/* The number at *at, which moves behind it. Of a tenth byte one bit is left, so it stands apart. */
+static inline uint32_t plain_number(const uint8_t **at, const uint8_t *end, uint64_t *number)
 {
     uint64_t sum = 0;
-    for (int shift = 0; shift < 35; shift += 7) {
+    for (int shift = 0; shift < 63; shift += 7) {
         if (*at == end)
             return DW_REFUSED_FILE_ENDS;
         uint8_t byte = *(*at)++;
         sum |= (uint64_t)(byte & 127) << shift;
         if (byte < 128) {
-            *number = (uint32_t)sum;
-            return (byte == 0 && shift > 0) || sum > UINT32_MAX ? DW_REFUSED_NUMBER_FORM : DW_SERVED;
+            *number = sum;
+            return byte == 0 && shift > 0 ? DW_REFUSED_NUMBER_FORM : DW_SERVED;
         }
     }
-    return DW_REFUSED_NUMBER_FORM;
+    if (*at == end)
+        return DW_REFUSED_FILE_ENDS;
+    *number = sum | UINT64_C(1) << 63;
+    return *(*at)++ != 1 ? DW_REFUSED_NUMBER_FORM : DW_SERVED;
+}
+
+/* One code of degree n. */
+static inline uint32_t plain_read_code(const uint8_t **at, const uint8_t *end, uint32_t n, uint32_t *code)
+{
+    uint64_t number;
+    uint32_t why = plain_number(at, end, &number);
+    if (why != DW_SERVED)
+        return why;
+    *code = (uint32_t)number;
+    return number > UINT32_MAX ? DW_REFUSED_CODE_DEGREE : plain_code(n, *code);
 }
 
 /* The fields before the levels; version 1 has two codes. */
 static inline uint32_t plain_read_head(const uint8_t **at, const uint8_t *end, uint32_t *version, uint32_t *n, uint32_t *codes)
 {
+    uint64_t number;
     uint32_t why;
-    if ((why = plain_number(at, end, version)) != DW_SERVED)
+    if ((why = plain_number(at, end, &number)) != DW_SERVED)
         return why;
-    if (*version != 1 && *version != 2)
+    if (number != 1 && number != 2)
         return DW_REFUSED_VERSION;
-    if ((why = plain_number(at, end, n)) != DW_SERVED)
+    *version = (uint32_t)number;
+    if ((why = plain_number(at, end, &number)) != DW_SERVED)
         return why;
-    if (*n < 2 || *n > 6)
+    if (number < 2 || number > 6)
         return DW_REFUSED_SHEET_DEGREE;
+    *n = (uint32_t)number;
     for (uint32_t i = 0; i <= *version; i++)
-        if ((why = plain_number(at, end, &codes[i])) != DW_SERVED || (why = plain_code(*n, codes[i])) != DW_SERVED)
+        if ((why = plain_read_code(at, end, *n, &codes[i])) != DW_SERVED)
             return why;
     int coprime = *version == 1 ? plain_coprime(codes[0], codes[1]) : plain_coprime3(*n, codes[0], codes[1], codes[2]);
     return !coprime ? DW_REFUSED_COMMON_FACTOR : DW_SERVED;
@@ -661,7 +678,7 @@ static inline uint32_t plain_read_levels(const uint8_t **at, const uint8_t *end,
 {
     uint32_t i, why = DW_SERVED;
     for (i = 0; i < count; i++) {
-        uint32_t level;
+        uint64_t level;
         if ((why = plain_number(at, end, &level)) != DW_SERVED)
             break;
         if (level > 65535) {
@@ -683,7 +700,7 @@ static inline int plain_printable(const uint8_t *bytes, size_t size)
 }
 
 /* The name's length; the name stands from *at to the end. */
-static inline uint32_t plain_read_name(const uint8_t **at, const uint8_t *end, uint32_t *size)
+static inline uint32_t plain_read_name(const uint8_t **at, const uint8_t *end, uint64_t *size)
 {
     uint32_t why = plain_number(at, end, size);
     if (why != DW_SERVED)
@@ -704,7 +721,8 @@ PLAIN_CALL plain_read(const uint8_t *file, size_t length, uint16_t *powers, size
 {
     const uint8_t *at = file, *end = file + length;
     uint16_t levels[3][DW_LEVELS_ROOM];
-    uint32_t v, n, codes[3], size, why;
+    uint32_t v, n, codes[3], why;
+    uint64_t size;
     if (powers_room < DW_LEVELS_ROOM || forces_room < DW_LEVELS_ROOM || times_room < DW_LEVELS_ROOM)
         return DW_REFUSED_SLICE_LENGTH;
     if ((why = plain_read_head(&at, end, &v, &n, codes)) != DW_SERVED)
@@ -730,7 +748,7 @@ PLAIN_CALL plain_read(const uint8_t *file, size_t length, uint16_t *powers, size
 }
 
 /* Puts the bytes of a number, and gives the place behind them. */
-static inline uint8_t *plain_put(uint8_t *at, uint32_t number)
+static inline uint8_t *plain_put(uint8_t *at, uint64_t number)
 {
     for (; number >= 128; number >>= 7)
         *at++ = (uint8_t)(number | 128);
@@ -777,6 +795,85 @@ PLAIN_CALL plain_write(uint32_t version, uint32_t n, uint32_t f, uint32_t g, uin
         return DW_REFUSED_SLICE_LENGTH;
     memcpy(file, made, (size_t)(at - made));
     *length = (size_t)(at - made);
+    return DW_SERVED;
+}
+
+/* The file is made in place, where the longest has room; else aside, and copied if it fits. */
+PLAIN_CALL plain_save(const dw_walk *walk, uint8_t *out, size_t room, size_t *size)
+{
+    uint8_t made[DW_SAVED_ROOM], *to = room < DW_SAVED_ROOM ? made : out;
+    if (plain_bad_walk(walk))
+        return DW_REFUSED_WALK_RECORD;
+    uint8_t *at = plain_put(plain_put(plain_put(to, 2), walk->degree), walk->position);
+    for (int i = 0; i < DW_MARKS; i++)
+        at = plain_put(at, walk->marks[i]);
+    for (int i = 0; i < DW_BONDERS; i++)
+        at = plain_put(at, walk->counts[i]);
+    size_t length = (size_t)(at - to);
+    if (length > room)
+        return DW_REFUSED_SLICE_LENGTH;
+    if (to == made)
+        memcpy(out, made, length);
+    *size = length;
+    return DW_SERVED;
+}
+
+/* The marks and counts of kind 2. */
+static inline uint32_t plain_load_rest(const uint8_t **at, const uint8_t *end, dw_walk *walk)
+{
+    uint32_t why;
+    for (int i = 0; i < DW_MARKS; i++)
+        if ((why = plain_number(at, end, &walk->marks[i])) != DW_SERVED)
+            return why;
+    for (int i = 0; i < DW_BONDERS; i++) {
+        if ((why = plain_number(at, end, &walk->counts[i])) != DW_SERVED)
+            return why;
+        if (walk->counts[i] > DW_FULL_COUNT)
+            return DW_REFUSED_COUNT_RANGE;
+    }
+    return DW_SERVED;
+}
+
+/* The record of a file, but for its next pair. */
+static inline uint32_t plain_load_record(const uint8_t *file, size_t length, dw_walk *made)
+{
+    const uint8_t *at = file, *end = file + length;
+    uint64_t kind, n;
+    uint32_t why;
+    if ((why = plain_number(&at, end, &kind)) != DW_SERVED)
+        return why;
+    if (kind != 1 && kind != 2)
+        return DW_REFUSED_SAVED_KIND;
+    if ((why = plain_number(&at, end, &n)) != DW_SERVED || (why = plain_number(&at, end, &made->position)) != DW_SERVED)
+        return why;
+    if (kind == 2 && (why = plain_load_rest(&at, end, made)) != DW_SERVED)
+        return why;
+    if (at != end)
+        return DW_REFUSED_TRAILING_BYTES;
+    made->degree = n > 31 ? 0 : (uint32_t)n;
+    return plain_bad_walk(made) ? DW_REFUSED_WALK_RECORD : DW_SERVED;
+}
+
+/* A file is read with its next pair worked as a return works it; and, for positions that rise, as a draw does. */
+PLAIN_CALL plain_load(const uint8_t *file, size_t length, dw_walk *walk)
+{
+    dw_walk made = {0};
+    uint32_t why = plain_load_record(file, length, &made);
+    if (why != DW_SERVED)
+        return why;
+    plain_keep_any(&made);
+    *walk = made;
+    return DW_SERVED;
+}
+
+PLAIN_CALL plain_load_rising(const uint8_t *file, size_t length, dw_walk *walk)
+{
+    dw_walk made = {0};
+    uint32_t why = plain_load_record(file, length, &made);
+    if (why != DW_SERVED)
+        return why;
+    plain_keep_rising(&made);
+    *walk = made;
     return DW_SERVED;
 }
 

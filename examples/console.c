@@ -1,9 +1,11 @@
-/* A console's job: start a walk, draw pairs for two bonders, come back, make the sheet, write the trial file and read it back. Then a trial
- * of version 2, which has a bond time at each site as well; and a sheet that was made elsewhere, checked. */
+/* A console's job: start a walk, draw pairs for two bonders, come back, save the walk and go on after an update, make the sheet, write the
+ * trial file and read it back. Then a trial of version 2, which has a bond time at each site as well; and a sheet that was made elsewhere,
+ * checked. */
 #include "dinnowell.h"
 
 #include <inttypes.h>
 #include <stdio.h>
+#include <string.h>
 
 static const uint8_t name[] = { 'A' };
 static const uint16_t powers[] = { 100, 110, 120, 130, 140, 150, 160, 170 }, forces[] = { 200, 220, 240, 260, 280, 300, 320, 340 };
@@ -24,6 +26,17 @@ static int read_back(const uint8_t *file, size_t length)
     if (version == 2)
         printf(", first time %u, third code %" PRIu32, (unsigned)levels[2][0], h);
     printf("\n");
+    return 1;
+}
+
+/* Goes on with a saved walk, and says where it is. A walk that is refused stays as it was. */
+static int go_on(const uint8_t *file, size_t length, dw_walk *walk)
+{
+    if (dw_load(file, length, walk) != DW_SERVED)
+        return 0;
+    printf("saved walk of %zu bytes, degree %" PRIu32 ", position %" PRIu64 ", next pair %" PRIu32 " %" PRIu32, length, walk->degree,
+           walk->position, walk->f, walk->g);
+    printf(", bonder 3 was given %" PRIu64 "\n", walk->counts[3]);
     return 1;
 }
 
@@ -51,6 +64,20 @@ int main(void)
         return 1;
     printf("pair %" PRIu32 " %" PRIu32 ", and back to position %" PRIu64 "\n", next_f, next_g, walk.position);
     printf("bonder 0 was given %" PRIu64 ", bonder 3 %" PRIu64 "\n", walk.counts[0], walk.counts[3]);
+
+    /* Before an update the console stores the walk, and after it goes on from there. */
+    uint8_t saved[DW_SAVED_ROOM];
+    size_t saved_length = 0;
+    if (dw_save(&walk, saved, sizeof saved, &saved_length) != DW_SERVED || !go_on(saved, saved_length, &walk))
+        return 1;
+
+    /* An earlier release stored degree and position, here 31 and 300, and nothing else: a byte 1 goes in front. */
+    static const uint8_t stored[] = { 31, 0xac, 2 };
+    dw_walk earlier;
+    saved[0] = 1;
+    memcpy(saved + 1, stored, sizeof stored);
+    if (!go_on(saved, 1 + sizeof stored, &earlier))
+        return 1;
 
     uint8_t sheet[192]; /* 2 * 4^n bytes and, below, 3 * 4^n */
     if (dw_sheet(n, f, g, sheet, sizeof sheet) != DW_SERVED)

@@ -1,6 +1,6 @@
 /*
- * Dinnowell: coprime pairs and triples of binary polynomials, crossed squares, sheets and trial files for bonding trials; and a check of
- * sheets made elsewhere.
+ * Dinnowell: coprime pairs and triples of binary polynomials, walks through the pairs, which can be saved, crossed squares, sheets and
+ * trial files for bonding trials; and a check of sheets made elsewhere.
  *
  * WHAT IT SPEAKS OF; docs/SCOPE.md has all of it in full.
  * A polynomial with coefficients 0 and 1 is a code: bit j is the coefficient of x^j, so 11 is x^3 + x + 1. Its degree is the highest power
@@ -22,6 +22,10 @@
  * A trial of version 1 has two codes, f and g, and two lists of levels, powers and forces. One of version 2 has a third code, h, and a
  * third list, bond times; its codes are a triple, so its degree is 3 to 6. The format of a trial file, of either version, is in
  * docs/SCOPE.md under "Trial file".
+ * A saved walk is a file of numbers. The first is its kind. Behind it kind 1 has the degree and the position, which is all that consoles
+ * stored before there was dw_save; kind 2 has the degree, the position, the eight marks and the eight counts, in the order of dw_walk.
+ * In a trial file and in a saved walk, a number is cut into groups of seven bits, lowest first, a byte each, at most ten; the high bit is
+ * set on every byte but the last, and a last byte 0 is there for the number 0 alone. This is unsigned LEB128 in its shortest form.
  *
  * WHAT A FUNCTION ANSWERS. Every function returns DW_SERVED, the number of a refusal, or, where it says so, DW_SPENT. The refusals that a
  * function can return are listed with it, without their prefix DW_REFUSED_, in the order in which it looks for them; the first that applies
@@ -48,7 +52,7 @@
 
 /* The version of this interface. MAJOR grows where a caller may have to change, MINOR where something is added. */
 #define DW_VERSION_MAJOR 6
-#define DW_VERSION_MINOR 1
+#define DW_VERSION_MINOR 2
 #define DW_VERSION (1000 * DW_VERSION_MAJOR + DW_VERSION_MINOR)
 
 /*
@@ -80,20 +84,23 @@ enum {
     DW_REFUSED_CONSTANT_TERM = 7,   /* constant term 0, an even code */
     DW_REFUSED_COMMON_FACTOR = 8,   /* f and g have a common factor; of three codes, any two of them */
     /* Caused by who writes the file. */
-    DW_REFUSED_FILE_ENDS = 9,       /* file ends inside a number or the name, or before a field */
-    DW_REFUSED_NUMBER_FORM = 10,    /* number longer than five bytes, above 4294967295, or with a needless last byte 0 */
+    DW_REFUSED_FILE_ENDS = 9,       /* file ends before a field, inside the name, or inside a number before its tenth byte */
+    DW_REFUSED_NUMBER_FORM = 10,    /* number longer than ten bytes, above 18446744073709551615, or with a needless last byte 0 */
     DW_REFUSED_VERSION = 11,        /* version of a trial file neither 1 nor 2 */
     DW_REFUSED_SHEET_DEGREE = 12,   /* degree outside 2 to 6, of a trial file, a sheet or the list of triples */
     DW_REFUSED_LEVEL_RANGE = 13,    /* level above 65535; dw_read alone can meet one */
     DW_REFUSED_LEVEL_REPEATED = 14, /* level equal to an earlier one of its list */
     DW_REFUSED_NAME_LENGTH = 15,    /* name longer than 40 bytes */
     DW_REFUSED_NAME_BYTE = 16,      /* name byte outside 32 to 126 */
-    DW_REFUSED_TRAILING_BYTES = 17, /* bytes after the name */
+    DW_REFUSED_TRAILING_BYTES = 17, /* bytes after the name of a trial file, or after the last number of a saved walk */
     /* Caused by the console. */
     DW_REFUSED_MARK_RANGE = 18,     /* mark above 7 */
     DW_REFUSED_MARK_EMPTY = 19,     /* going back to an empty mark */
     DW_REFUSED_BONDER_RANGE = 20,   /* bonder above 7 */
     DW_REFUSED_BONDER_FULL = 21,    /* the bonder's count is DW_FULL_COUNT, and a pair is there to give */
+    /* Caused by who stores a saved walk. */
+    DW_REFUSED_SAVED_KIND = 22,     /* kind of a saved walk neither 1 nor 2 */
+    DW_REFUSED_COUNT_RANGE = 23,    /* count of a saved walk above DW_FULL_COUNT, 10^18 */
     /* Caused by who makes a sheet to check. */
     DW_REFUSED_ORDER_RANGE = 26,    /* order outside 3 to 64 */
     DW_REFUSED_SYMBOL_RANGE = 27,   /* symbol, anywhere in the sheet, not below the order */
@@ -111,6 +118,7 @@ enum {
     DW_SHEET3_ROOM = 12288, /* bytes that hold a sheet of three codes of any degree; degree n needs 3 * 4^n */
     DW_FILE_ROOM = 622,     /* bytes that hold any trial file; one of version 1 has at most 429 */
     DW_NAME_ROOM = 40,      /* bytes that hold any name, with no 0 behind it */
+    DW_SAVED_ROOM = 155,    /* bytes that hold any saved walk */
     DW_STACK_ROOM = 8192    /* bytes of stack that hold any call: measured, not proved; dw_pairs_from takes most, some 4600 */
 };
 
@@ -119,10 +127,11 @@ enum {
 
 /*
  * A walk through the list of a degree: dw_start fills it in, dw_draw moves it on and counts the pair for a bonder, dw_set_mark marks where
- * it is and dw_go_back takes it to a mark. A mark is 0 if it is empty, else the marked position plus 1; a count is how many pairs dw_draw
- * gave to that bonder. f and g are the next pair: where they are served, dw_start, dw_draw and dw_go_back set it to the pair at the new
- * position, or to 0 and 0 at the list's end, where the walk is spent. They do so whatever stood there, dw_go_back also where it leads to
- * the same position. No other call changes f and g.
+ * it is and dw_go_back takes it to a mark; dw_save writes it to a file, and dw_load fills it in from one. A mark is 0 if it is empty, else
+ * the marked position plus 1; a count is how many pairs dw_draw gave to that bonder, after dw_load on top of the file's count. f and g are
+ * the next pair: where they are served, dw_start, dw_draw, dw_go_back and dw_load set it to the pair at the new position, or to 0 and 0 at
+ * the list's end, where the walk is spent. They do so whatever stood there, dw_go_back also where it leads to the same position. No other
+ * call changes f and g.
  * A walk may be copied and kept, and may be written by hand: its degree 1 to 31, its position up to the length of its list, where the walk
  * is spent, each mark up to the length plus 1, and each count up to DW_FULL_COUNT. All eight marks and all eight counts are looked at, so
  * one that is not wanted must be 0.
@@ -138,7 +147,8 @@ enum {
  * Before version 5.0 a walk had 144 bytes and no next pair, before 4.0 it had 80 bytes and no counts either, before 3.0 it had 16 bytes and
  * no marks either. Code that was compiled for those must be compiled anew: dw_start writes 152 bytes, and dw_draw takes the bonder. Code
  * that writes degree or position must be changed as well, though it compiles: before 5.0 the pair followed the position. A walk that was
- * kept from before is taken over by copying its fields, with f and g 0, and then, as above, going to its own position.
+ * kept from before is taken over by copying its fields, with f and g 0, and then, as above, going to its own position. Over an update store
+ * what dw_save wrote, and not the record.
  */
 typedef struct dw_walk {
     uint32_t degree;
@@ -290,7 +300,9 @@ uint32_t dw_check_sheet(uint32_t order, const uint8_t *sheet, size_t length);
  * Then field by field: VERSION; SHEET_DEGREE; CODE_DEGREE, CONSTANT_TERM for f, then for g, and at version 2 then for h; COMMON_FACTOR for
  * any two of the codes; LEVEL_RANGE, LEVEL_REPEATED for each power, then for each force, and at version 2 then for each time; NAME_LENGTH;
  * FILE_ENDS, NAME_BYTE for the name; TRAILING_BYTES. Ahead of its field's own refusals, each number is refused by FILE_ENDS if the file
- * ends where the number is unfinished and has fewer than five bytes, and then by NUMBER_FORM.
+ * ends where the number is unfinished and has fewer than ten bytes, and then by NUMBER_FORM.
+ * Before version 6.2 a number had at most five bytes and was at most 4294967295. The files that are served are the same; one with a number
+ * beyond that, which NUMBER_FORM refused, may now be refused by another of these.
  * Before version 6.0 this function had neither times and times_room nor version and h. Code that was compiled for that links without
  * complaint, and must be compiled anew.
  */
@@ -326,8 +338,8 @@ DW_MUST_CHECK
 uint32_t dw_start(uint32_t n, dw_walk *walk);
 
 /*
- * The next pair of the walk: the one at its position, if dw_start began the walk and nothing but the calls below has written its degree,
- * position or pair. f and g must not point into *walk.
+ * The next pair of the walk: the one at its position, if dw_start or dw_load began the walk and nothing but the calls below has written its
+ * degree, position or pair. f and g must not point into *walk.
  * Served: *f and *g are walk->f and walk->g.
  * Refused: WALK_RECORD.
  * DW_SPENT: the walk is at the end of its list, whatever its next pair is.
@@ -362,6 +374,32 @@ uint32_t dw_set_mark(dw_walk *walk, uint32_t mark);
  */
 DW_MUST_CHECK
 uint32_t dw_go_back(dw_walk *walk, uint32_t mark);
+
+/*
+ * Saves a walk, for dw_load. A console that is updated in mid-trial stores these bytes before the update and reads them after it; it does
+ * not store the record. The file is of kind 2: the number 2, then degree, position, marks and counts as they stand in *walk. The next pair
+ * is not saved. room is how many bytes out can hold; DW_SAVED_ROOM are always enough.
+ * Served: *size is how many bytes the file has; they are the first of out. The bytes behind them are unchanged.
+ * Refused: WALK_RECORD; SLICE_LENGTH if room is below the file's length.
+ */
+DW_MUST_CHECK
+uint32_t dw_save(const dw_walk *walk, uint8_t *out, size_t room, size_t *size);
+
+/*
+ * Reads a saved walk, the length bytes of file: one that dw_save wrote, which is of kind 2, or one of kind 1. A file of the old release,
+ * which has the degree and then the position, gets a byte 1 in front from the console, and then is of kind 1: dw_draw gives the bonders 0
+ * to 7 the pairs that the old release would have given, until dw_go_back is served. What stands in *walk before is not looked at.
+ * Reading begins a walk of its own, as dw_start does. dw_draw goes on from the file's position and adds to the file's counts; a pair that
+ * was drawn before the reading may come again after it, as when more was drawn after the walk was saved, or when a file is read twice.
+ * Served: *walk has the file's degree and position, at kind 2 the file's marks and counts, at kind 1 all marks empty and all counts 0, and
+ * as its next pair the one at its position, or 0 and 0 at the list's end.
+ * Refused: number by number: SAVED_KIND for the kind; COUNT_RANGE for each count, before the numbers behind it are looked at;
+ * TRAILING_BYTES; then WALK_RECORD if the degree is outside 1 to 31, the position above the length of its list, or a mark above the length
+ * plus 1. Ahead of its own refusal, each number is refused by FILE_ENDS if the file ends where the number is unfinished and has fewer than
+ * ten bytes, and then by NUMBER_FORM.
+ */
+DW_MUST_CHECK
+uint32_t dw_load(const uint8_t *file, size_t length, dw_walk *walk);
 
 #ifdef __cplusplus
 }

@@ -3,7 +3,9 @@
  * exactly the size that the call is told, and guard bytes around it; after each call every byte of it is compared.
  */
 #include "dinnowell.h"
+#include "numbers.h"
 #include "reference.h"
+#include "saved.h"
 #include "sheets.h"
 
 #include <inttypes.h>
@@ -22,10 +24,11 @@ CHECK(DW_REFUSED_SITE_RANGE == 5 && DW_REFUSED_CODE_DEGREE == 6 && DW_REFUSED_CO
 CHECK(DW_REFUSED_FILE_ENDS == 9 && DW_REFUSED_NUMBER_FORM == 10 && DW_REFUSED_VERSION == 11 && DW_REFUSED_SHEET_DEGREE == 12);
 CHECK(DW_REFUSED_LEVEL_RANGE == 13 && DW_REFUSED_LEVEL_REPEATED == 14 && DW_REFUSED_NAME_LENGTH == 15 && DW_REFUSED_NAME_BYTE == 16);
 CHECK(DW_REFUSED_TRAILING_BYTES == 17 && DW_REFUSED_MARK_RANGE == 18 && DW_REFUSED_MARK_EMPTY == 19 && DW_REFUSED_BONDER_RANGE == 20);
+CHECK(DW_REFUSED_SAVED_KIND == 22 && DW_REFUSED_COUNT_RANGE == 23 && DW_SAVED_ROOM == 155);
 CHECK(DW_REFUSED_ORDER_RANGE == 26 && DW_REFUSED_SYMBOL_RANGE == 27 && DW_REFUSED_NOT_GRAECO_LATIN == 28);
 CHECK(DW_REFUSED_BONDER_FULL == 21 && DW_MARKS == 8 && DW_BONDERS == 8 && DW_FULL_COUNT == UINT64_C(1000000000000000000));
 CHECK(DW_CHAIN_ROOM == 32 && DW_LEVELS_ROOM == 64 && DW_SHEET_ROOM == 8192 && DW_SHEET3_ROOM == 12288 && DW_FILE_ROOM == 622);
-CHECK(DW_NAME_ROOM == 40 && DW_STACK_ROOM == 8192 && DW_VERSION_MAJOR == 6 && DW_VERSION_MINOR == 1 && DW_VERSION == 6001);
+CHECK(DW_NAME_ROOM == 40 && DW_STACK_ROOM == 8192 && DW_VERSION_MAJOR == 6 && DW_VERSION_MINOR == 2 && DW_VERSION == 6002);
 
 enum { SEED = 20261115, GUARD = 64, LARGEST = 1 << 14, SLOTS = 16 };
 
@@ -427,20 +430,12 @@ static dw_walk try_call(dw_walk walk)
     return draw(2) ? try_next(walk, some_number(), second) : try_mark(walk, some_number(), second);
 }
 
-/* Calls on one record that is put near the end of the list, beyond it, or anywhere, with marks that are empty, anywhere, at the end or,
- * now and then, beyond it, with counts that are anything up to full, full or nearly so, or, now and then, more, and with a next pair that
- * is still the first of the list, or anything. */
-static void try_walk(void)
+/* A record that is put near the end of the list, beyond it, or anywhere, with marks that are empty, anywhere, at the end or, now and then,
+ * beyond it, with counts that are anything up to full, full or nearly so, or, now and then, more, and with a next pair that is what it was,
+ * or anything. */
+static dw_walk some_record(dw_walk walk)
 {
-    uint32_t n = some_degree(1, 31), want = out_of_range(n) ? 1 : 0;
-    uint64_t length = want ? 0 : ref_length(n);
-    dw_walk walk;
-    memset(&walk, 0, sizeof walk);
-    walk.degree = n;
-    if (want == 0)
-        walk = with_next(walk);
-    count(dw_start(n, (dw_walk *)lend(0, sizeof walk)), want, "dw_start");
-    came_walk(0, want, walk, "dw_start: walk");
+    uint64_t length = out_of_range(walk.degree) ? 0 : ref_length(walk.degree);
     if (draw(2)) {
         walk.f = (uint32_t)draw64();
         walk.g = draw(2) ? 0 : (uint32_t)draw64();
@@ -450,6 +445,21 @@ static void try_walk(void)
         walk.marks[i] = draw(2) ? 0 : draw(2) ? 1 + draw64() % (length + 1) : draw(16) ? length + draw(2) : length + 2 + draw64() % 3;
         walk.counts[i] = draw(2) ? draw64() % full : draw(32) ? full - draw(3) : draw(2) ? full + 1 : UINT64_MAX;
     }
+    return walk;
+}
+
+/* Calls on such a record. */
+static void try_walk(void)
+{
+    uint32_t n = some_degree(1, 31), want = out_of_range(n) ? 1 : 0;
+    dw_walk walk;
+    memset(&walk, 0, sizeof walk);
+    walk.degree = n;
+    if (want == 0)
+        walk = with_next(walk);
+    count(dw_start(n, (dw_walk *)lend(0, sizeof walk)), want, "dw_start");
+    came_walk(0, want, walk, "dw_start: walk");
+    walk = some_record(walk);
     for (int i = 0; i < 8; i++)
         walk = try_call(walk);
 }
@@ -536,55 +546,537 @@ static void wrong_pairs(void)
         }
 }
 
-/* A walk of many calls from a start on, against a model that sees the calls alone: where the walk is, which of its marks are set and to
- * what place, and how many pairs each bonder was given. A pair comes again only after a return, and the record always holds the one at
- * its position, or 0 and 0 at the end. It has no guard bytes here. */
-static void try_whole_walk(void)
+/* The numbers of the file that a record is saved as, and the record that a file is read as. */
+static void numbers_of(const dw_walk *walk, uint64_t numbers[SAVED_NUMBERS])
 {
-    static uint32_t drawn_in[64][64];
-    uint32_t n = 1 + draw(5), returns = 1, f, g, pair[2] = { 0, 0 };
-    uint64_t length = ref_length(n), place = 0, marked[8] = { 0 }, given[8] = { 0 };
-    int set[8] = { 0 };
+    numbers[OF_KIND] = 2;
+    numbers[OF_DEGREE] = walk->degree;
+    numbers[OF_POSITION] = walk->position;
+    for (int i = 0; i < 8; i++) {
+        numbers[OF_MARKS + i] = walk->marks[i];
+        numbers[OF_COUNTS + i] = walk->counts[i];
+    }
+}
+
+static dw_walk walk_of(const uint64_t numbers[SAVED_NUMBERS])
+{
     dw_walk walk;
-    memset(drawn_in, 0, sizeof drawn_in);
-    count(dw_start(n, &walk), 0, "whole walk: start");
-    holds_next(walk, "whole walk: first pair");
-    for (int i = 0; i < 600; i++) {
-        uint32_t kind = draw(24), number = some_number();
-        if (place < length)
-            ref_pair(n, place, &pair[0], &pair[1]);
-        if (kind == 0) {
-            count(dw_set_mark(&walk, number), number > 7 ? 18 : 0, "whole walk: set");
-            if (number <= 7) {
-                set[number] = 1;
-                marked[number] = place;
-            }
-        } else if (kind == 1) {
-            count(dw_go_back(&walk, number), number > 7 ? 18 : set[number] ? 0 : 19, "whole walk: back");
-            if (number <= 7 && set[number]) {
-                place = marked[number];
-                returns++;
-            }
-        } else if (kind > 4 && number > 7) {
-            count(dw_draw(&walk, number, &f, &g), 20, "whole walk: no bonder");
-        } else {
-            count(kind < 5 ? dw_look(&walk, &f, &g) : dw_draw(&walk, number, &f, &g), place == length ? DW_SPENT : 0, "whole walk: next");
-            if (place < length)
-                expect(f == pair[0] && g == pair[1], "whole walk: pair");
-            if (place < length && kind >= 5) {
-                place++;
-                given[number]++;
-                expect(drawn_in[f][g] != returns, "whole walk: repeat");
-                drawn_in[f][g] = returns;
-            }
+    memset(&walk, 0, sizeof walk);
+    walk.degree = (uint32_t)numbers[OF_DEGREE];
+    walk.position = numbers[OF_POSITION];
+    for (int i = 0; i < 8; i++) {
+        walk.marks[i] = numbers[OF_MARKS + i];
+        walk.counts[i] = numbers[OF_COUNTS + i];
+    }
+    return with_next(walk);
+}
+
+/* Saves a record, whatever it holds, into so many bytes; gives what the call answers. The record is read alone. */
+static uint32_t save_lent(dw_walk walk, size_t room)
+{
+    uint8_t file[SAVED_MOST];
+    uint64_t numbers[SAVED_NUMBERS];
+    numbers_of(&walk, numbers);
+    size_t size = ref_save(numbers, file);
+    uint32_t want = bad_walk(walk) ? 3 : room < size ? 4 : 0;
+    const dw_walk *place = (const dw_walk *)lend_copy(0, &walk, sizeof walk);
+    uint8_t *out = (uint8_t *)lend(1, room);
+    count(dw_save(place, room == 0 && draw(2) ? NULL : out, room, lend_size(2)), want, "dw_save");
+    came_back(0, NULL, 0, "dw_save: walk");
+    came_back(1, file, want ? 0 : size, "dw_save: file");
+    came_size(2, want, size, "dw_save: length");
+    return want;
+}
+
+/* Reads a file, whatever it is, over a record of any bytes; gives what the call answers. The file is read alone. */
+static uint32_t load_lent(const uint8_t *bytes, size_t size)
+{
+    uint64_t numbers[SAVED_NUMBERS];
+    dw_walk walk;
+    memset(&walk, 0, sizeof walk);
+    uint32_t want = ref_load(bytes, size, numbers);
+    if (want == 0)
+        walk = walk_of(numbers);
+    const uint8_t *file = (const uint8_t *)lend_copy(0, bytes, size);
+    dw_walk *place = (dw_walk *)lend(1, sizeof walk);
+    count(dw_load(size == 0 && draw(2) ? NULL : file, size, place), want, "dw_load");
+    came_back(0, NULL, 0, "dw_load: file");
+    came_walk(1, want, walk, "dw_load: walk");
+    return want;
+}
+
+/* A good record is saved and read back, with any pair in it, and then the pair is right; what was read is saved as the same bytes. */
+static void saved_and_back(dw_walk walk)
+{
+    uint8_t file[DW_SAVED_ROOM] = { 0 }, again[DW_SAVED_ROOM] = { 0 };
+    size_t size = 0, size_again = 0;
+    dw_walk back, right = with_next(walk);
+    memset(&back, (int)draw(256), sizeof back);
+    count(dw_save(&walk, file, sizeof file, &size), 0, "saved and back: save");
+    expect(load_lent(file, size) == 0, "saved and back: as document 02 has it");
+    count(dw_load(file, size, &back), 0, "saved and back: load");
+    expect(back.degree == walk.degree && back.position == walk.position, "saved and back: position");
+    expect(!memcmp(back.marks, walk.marks, sizeof walk.marks), "saved and back: marks");
+    expect(!memcmp(back.counts, walk.counts, sizeof walk.counts), "saved and back: counts");
+    expect(back.f == right.f && back.g == right.g, "saved and back: next pair");
+    count(dw_save(&back, again, sizeof again, &size_again), 0, "saved and back: save again");
+    expect(size == size_again && memcmp(file, again, size) == 0, "saved and back: same bytes");
+}
+
+/* A random record, good or not, and a random room, often next to the file's length. */
+static void try_save(void)
+{
+    uint8_t file[SAVED_MOST];
+    uint64_t numbers[SAVED_NUMBERS];
+    dw_walk walk;
+    memset(&walk, 0, sizeof walk);
+    walk.degree = some_degree(1, 31);
+    walk = some_record(walk);
+    numbers_of(&walk, numbers);
+    size_t size = ref_save(numbers, file);
+    save_lent(walk, draw(4) ? size - 1 + draw(3) : draw(DW_SAVED_ROOM + 2));
+    if (!bad_walk(walk))
+        saved_and_back(walk);
+}
+
+/* The file of a random record, of either kind, that is often damaged at one place. */
+static size_t some_saved(uint8_t *file)
+{
+    uint64_t numbers[SAVED_NUMBERS], values[LONG_MOST];
+    uint8_t kind = (uint8_t)draw(8);
+    dw_walk walk;
+    memset(&walk, 0, sizeof walk);
+    walk.degree = some_degree(1, 31);
+    walk = some_record(walk);
+    numbers_of(&walk, numbers);
+    numbers[OF_KIND] = draw(32) ? 1 + draw(2) : draw(4) ? draw(4) : draw64();
+    uint32_t field = draw(ref_saved_count(numbers[OF_KIND]));
+    if (kind == 0)
+        numbers[field] = values[draw((uint32_t)long_values(numbers[field], ref_length(31), values))];
+    size_t size = ref_save(numbers, file), at = draw((uint32_t)size);
+    if (kind == 1)
+        return at;
+    if (kind == 2)
+        file[at] = (uint8_t)draw(256);
+    if (kind == 3)
+        file[size++] = (uint8_t)draw(256);
+    if (kind == 4) {
+        const odd_number *odd = &odd_numbers[draw(odd_count)];
+        memcpy(file + at, odd->bytes, odd->size);
+        return odd->ends ? at + odd->size : size;
+    }
+    return size;
+}
+
+/* A file of kind 2 that is read is saved again as the same bytes. */
+static void try_load(void)
+{
+    uint8_t file[SAVED_MOST] = { 0 }, again[DW_SAVED_ROOM] = { 0 };
+    make_odd_numbers();
+    size_t size = some_saved(file), size_again = 0;
+    if (load_lent(file, size) != 0 || file[0] != 2)
+        return;
+    dw_walk walk;
+    count(dw_load(file, size, &walk), 0, "dw_load: once more");
+    count(dw_save(&walk, again, sizeof again, &size_again), 0, "dw_load: saved again");
+    expect(size == size_again && memcmp(file, again, size) == 0, "dw_load: the same bytes");
+}
+
+/* Files written by hand: of degree 3 and each kind; a count of 10^18 and of one more; and a degree whose low 32 bits are 2. */
+static void saved_by_hand(void)
+{
+    static const uint8_t first[] = { 1, 3, 4 }, cut[] = { 1, 3 }, wide[] = { 1, 0x82, 0x80, 0x80, 0x80, 0x10, 0 };
+    static const uint8_t second[] = { 2, 3, 10, 0, 1, 2, 11, 0, 0, 0, 5, 0, 1, 2, 0, 0, 5, 127, 0x80, 1 };
+    uint8_t counted[] = { 2, 2, 1, 0, 0, 0, 0, 0, 0, 0, 0, 0, 0, 0, 0, 0, 0, 0, 0x80, 0x80, 0x90, 0xbb, 0xba, 0xd6, 0xad, 0xf0, 13 };
+    uint8_t out[DW_SAVED_ROOM];
+    size_t size = 0;
+    dw_walk walk;
+    count(dw_load(first, sizeof first, &walk), 0, "by hand: kind 1");
+    expect(walk.degree == 3 && walk.position == 4 && walk.f == 13 && walk.g == 9 && walk.marks[0] == 0, "by hand: degree 3, position 4");
+    count(dw_load(second, sizeof second, &walk), 0, "by hand: kind 2");
+    expect(walk.position == 10 && walk.f == 0 && walk.g == 0, "by hand: the end of degree 3");
+    expect(walk.marks[1] == 1 && walk.marks[3] == 11 && walk.marks[7] == 5, "by hand: marks");
+    expect(walk.counts[1] == 1 && walk.counts[5] == 5 && walk.counts[7] == 128, "by hand: counts");
+    count(dw_save(&walk, out, sizeof out, &size), 0, "by hand: saved");
+    expect(size == sizeof second && memcmp(out, second, size) == 0, "by hand: the same bytes");
+    count(dw_load(counted, sizeof counted, &walk), 0, "by hand: full");
+    expect(walk.counts[7] == full && walk.f == 5 && walk.g == 7, "by hand: count of 10^18");
+    counted[18]++;
+    count(dw_load(counted, sizeof counted, &walk), 23, "by hand: more than full");
+    count(dw_load(cut, sizeof cut, &walk), 9, "by hand: no position");
+    count(dw_load(wide, sizeof wide, &walk), 3, "by hand: a degree of more than 32 bits");
+    count(dw_load(first + 1, 2, &walk), 22, "by hand: no kind in front");
+    expect(walk.degree == 2 && walk.counts[7] == full, "by hand: refused");
+}
+
+/* The numbers of a good file of a degree, all of different values where the list is long enough. */
+static void good_numbers(uint64_t kind, uint32_t n, uint64_t numbers[SAVED_NUMBERS])
+{
+    uint64_t length = ref_length(n);
+    numbers[OF_KIND] = kind;
+    numbers[OF_DEGREE] = n;
+    numbers[OF_POSITION] = length / 3;
+    for (uint32_t i = 0; i < 8; i++) {
+        numbers[OF_MARKS + i] = i == 5 ? 0 : i == 6 ? length + 1 : length - length / 9 * i % (length + 1);
+        numbers[OF_COUNTS + i] = i == 0 ? full : full / 7 * i >> 8 * (i / 2);
+    }
+}
+
+/* A file of a degree with one number in another form: as it is, and with the file's end behind that number. */
+static void one_defect(const uint64_t *numbers, const defect *d)
+{
+    uint8_t file[SAVED_MOST];
+    raw_saved raw = raw_saved_of(numbers);
+    spoil_saved(&raw, d);
+    expect(load_lent(file, put_saved(&raw, file)) == d->answer, "saved numbers: its answer");
+    if (d->at >= raw.count || raw.numbers[d->at].ends)
+        return;
+    raw.numbers[d->at].ends = 1;
+    uint32_t at_once = d->answer == 0 || d->answer == 3 ? 9 : d->answer;
+    expect(load_lent(file, put_saved(&raw, file)) == (d->at + 1 < raw.count ? at_once : d->answer), "saved numbers: end behind it");
+}
+
+/* Whether the answer to a value depends on the other numbers: a kind that is the other one, and another degree that has a list. */
+static int of_other_numbers(uint32_t at, uint64_t value)
+{
+    return (at == OF_KIND && (value == 1 || value == 2)) || (at == OF_DEGREE && value >= 1 && value <= 31);
+}
+
+/* Every number of a file in every odd form, with every long value and those about its limits; gives the defects that are tried together. */
+static uint32_t each_number(const uint64_t *numbers, defect *few)
+{
+    uint32_t many = 0, n = (uint32_t)numbers[OF_DEGREE];
+    for (uint32_t at = 0; at < ref_saved_count(numbers[OF_KIND]); at++) {
+        uint64_t values[LONG_MOST];
+        int long_count = long_values(numbers[at], at < OF_COUNTS ? ref_length(n) : full, values);
+        for (uint32_t i = 0; i < odd_count; i++) {
+            defect d = odd_defect(at, odd_numbers[i]);
+            one_defect(numbers, &d);
+            if (d.form.few)
+                few[many++] = d;
         }
-        expect(walk.degree == n && walk.position == place, "whole walk: position");
-        holds_next(walk, "whole walk: next pair");
-        for (int m = 0; m < 8; m++) {
-            expect(walk.marks[m] == (set[m] ? marked[m] + 1 : 0), "whole walk: marks");
-            expect(walk.counts[m] == given[m], "whole walk: counts");
+        for (int i = 0; i < long_count; i++) {
+            uint32_t answer = answer_to(at, values[i], n);
+            defect d = value_defect(at, values[i], answer);
+            if (of_other_numbers(at, values[i]))
+                continue;
+            one_defect(numbers, &d);
+            if (answer != 0 && (i % 6 == 5 || i > 26))
+                few[many++] = d;
         }
     }
+    return many;
+}
+
+/* Every two defects at different places: the one that is looked for first refuses. */
+static void every_two_defects(const uint64_t *numbers, const defect *few, uint32_t many)
+{
+    uint8_t file[SAVED_MOST];
+    for (uint32_t i = 0; i < many; i++)
+        for (uint32_t k = i + 1; k < many; k++) {
+            const defect *a = &few[i], *b = &few[k];
+            raw_saved raw = raw_saved_of(numbers);
+            if (a->at == b->at && a->at < SAVED_NUMBERS)
+                continue;
+            spoil_saved(&raw, a);
+            spoil_saved(&raw, b);
+            expect(load_lent(file, put_saved(&raw, file)) == (a->when <= b->when ? a : b)->answer, "saved numbers: the first refuses");
+        }
+}
+
+static void saved_numbers(void)
+{
+    static const uint32_t degrees[] = { 1, 2, 4, 17, 31 };
+    static const uint8_t behind[] = { 0, 1, 0x80, 0xff };
+    static defect few[1024];
+    make_odd_numbers();
+    for (uint64_t kind = 1; kind <= 2; kind++)
+        for (int i = 0; i < 5; i++) {
+            uint64_t numbers[SAVED_NUMBERS] = { 0 };
+            good_numbers(kind, degrees[i], numbers);
+            uint32_t many = each_number(numbers, few);
+            for (size_t k = 0; k < sizeof behind; k++) {
+                few[many] = trailing_defect(behind[k]);
+                one_defect(numbers, &few[many++]);
+            }
+            if (kind == 1 || i == 2 || i == 4)
+                every_two_defects(numbers, few, many);
+        }
+}
+
+/* Files with every value at every byte, with every part of them from the front, and with bytes more. */
+static void changed_saved(const uint64_t *numbers)
+{
+    uint8_t file[SAVED_MOST] = { 0 };
+    size_t size = ref_save(numbers, file);
+    expect(load_lent(file, size) == 0, "saved files: whole");
+    for (size_t at = 0; at < size; at++) {
+        uint8_t kept = file[at];
+        expect(load_lent(file, at) == 9, "saved files: cut");
+        for (uint32_t value = 0; value < 256; value++) {
+            file[at] = (uint8_t)value;
+            load_lent(file, size);
+        }
+        file[at] = kept;
+    }
+    for (uint32_t value = 0; value < 256; value++) {
+        file[size] = (uint8_t)value;
+        expect(load_lent(file, size + 1 + value % 100) == 17, "saved files: bytes more");
+    }
+}
+
+/* Each degree, in a file of either kind and with more above its 32 bits; and the position and each mark about the end of its list. */
+static void saved_at_the_ends(void)
+{
+    uint8_t file[SAVED_MOST];
+    for (uint32_t n = 0; n <= 40; n++)
+        for (uint64_t kind = 1; kind <= 2; kind++)
+            for (uint32_t at = OF_POSITION; at < ref_saved_count(kind) && at < OF_COUNTS; at++)
+                for (uint64_t more = 0; more < 5; more++) {
+                    uint64_t length = out_of_range(n) ? 0 : ref_length(n), numbers[SAVED_NUMBERS] = { kind, n };
+                    numbers[at] = length + more - 1 + (length == 0 && more == 0);
+                    int beyond = numbers[at] > length + (at > OF_POSITION);
+                    expect(load_lent(file, ref_save(numbers, file)) == (out_of_range(n) || beyond ? 3u : 0), "saved at the ends: degree");
+                    numbers[OF_DEGREE] += UINT64_C(1) << (32 + more);
+                    expect(load_lent(file, ref_save(numbers, file)) == 3, "saved at the ends: degree above 32 bits");
+                }
+}
+
+static void saved_files(void)
+{
+    static const uint32_t degrees[] = { 1, 2, 4, 31 };
+    for (uint64_t kind = 1; kind <= 2; kind++)
+        for (int i = 0; i < 4; i++) {
+            uint64_t numbers[SAVED_NUMBERS] = { 0 };
+            good_numbers(kind, degrees[i], numbers);
+            changed_saved(numbers);
+        }
+    uint64_t longest[SAVED_NUMBERS] = { 2, 31, ref_length(31) };
+    for (int i = 0; i < 8; i++) {
+        longest[OF_MARKS + i] = ref_length(31) + 1 - (uint64_t)i;
+        longest[OF_COUNTS + i] = full - (uint64_t)i;
+    }
+    uint8_t file[SAVED_MOST];
+    expect(ref_save(longest, file) == DW_SAVED_ROOM, "saved files: the longest");
+    changed_saved(longest);
+    saved_at_the_ends();
+}
+
+/* Walks as a start leaves them, at each end of the list, and with one mark or one count alone: also a walk that kind 1 could hold is saved
+ * as kind 2. */
+static void saved_bare(uint32_t n)
+{
+    for (int i = 0; i < 17; i++)
+        for (uint64_t end = 0; end < 2; end++) {
+            uint64_t numbers[SAVED_NUMBERS] = { 2, n, end * ref_length(n) };
+            uint8_t file[SAVED_MOST];
+            if (i < 16)
+                numbers[OF_MARKS + i] = 1;
+            size_t size = ref_save(numbers, file);
+            for (size_t room = size - 1; room <= size + 1; room++)
+                expect(save_lent(walk_of(numbers), room) == (room < size ? 4u : 0), "saved rooms: bare");
+            saved_and_back(walk_of(numbers));
+        }
+}
+
+/* Good records into every room up to two bytes more than the longest file has; each mark and count that number 3 refuses, whatever the
+ * room is; and every file there and back. */
+static void saved_rooms(void)
+{
+    for (uint32_t n = 0; n <= 32; n++) {
+        uint64_t numbers[SAVED_NUMBERS] = { 0 };
+        dw_walk walk;
+        memset(&walk, 0, sizeof walk);
+        walk.degree = n;
+        if (!out_of_range(n)) {
+            good_numbers(2, n, numbers);
+            walk = walk_of(numbers);
+            saved_and_back(walk);
+            saved_bare(n);
+        }
+        for (size_t room = 0; room <= DW_SAVED_ROOM + 2; room++) {
+            save_lent(walk, room);
+            dw_walk bad[4] = { walk, walk, walk, walk };
+            bad[0].degree = room % 2 ? 0 : 32 + (uint32_t)room;
+            bad[1].position = out_of_range(n) ? 0 : ref_length(n) + 1;
+            bad[2].marks[room % 8] = out_of_range(n) ? 0 : ref_length(n) + 2;
+            bad[3].counts[room % 8] = full + 1;
+            for (int i = 0; i < 4; i++)
+                expect(save_lent(bad[i], room) == 3, "saved rooms: bad record");
+        }
+    }
+}
+
+/* What the release before marks and counts answered, from a degree and a position alone: the pair call's pair, or spent. */
+static uint32_t old_release(uint32_t n, uint64_t position, uint32_t *f, uint32_t *g)
+{
+    if (position == ref_length(n))
+        return DW_SPENT;
+    count(dw_pair_at(n, position, f, g), 0, "old files: pair");
+    return 0;
+}
+
+/* Its file with a byte 1 in front: looks and draws by any bonder go on as it would have, marks set or not, and the counts begin at 0. */
+static void read_old(uint32_t n, uint64_t position)
+{
+    const uint64_t numbers[OF_MARKS] = { 1, n, position };
+    uint64_t given[8] = { 0 };
+    uint32_t f, g, want_f, want_g;
+    uint8_t file[SAVED_MOST];
+    dw_walk walk;
+    memset(&walk, (int)draw(256), sizeof walk);
+    size_t size = ref_save(numbers, file);
+    expect(load_lent(file, size) == 0, "old files: read");
+    count(dw_load(file, size, &walk), 0, "old files: load");
+    for (int i = 0; i < 40; i++) {
+        uint32_t bonder = draw(8), moves = draw(3), want = old_release(n, position, &want_f, &want_g);
+        if (draw(4) == 0)
+            count(dw_set_mark(&walk, draw(8)), 0, "old files: mark");
+        count(moves ? dw_draw(&walk, bonder, &f, &g) : dw_look(&walk, &f, &g), want, "old files: next");
+        expect(want != 0 || (f == want_f && g == want_g), "old files: same pair");
+        given[bonder] += moves && want == 0;
+        position += moves && want == 0;
+        expect(walk.degree == n && walk.position == position && !memcmp(walk.counts, given, sizeof given), "old files: walk");
+    }
+}
+
+static void old_files(void)
+{
+    for (uint32_t n = 1; n <= 31; n++)
+        for (uint64_t i = 0; i < 30; i++) {
+            uint64_t length = ref_length(n), near_end = length - (i < length ? i : length);
+            read_old(n, i % 3 == 0 ? near_end : i % 3 == 1 ? i % (length + 1) : draw64() % (length + 1));
+        }
+}
+
+/* What the calls alone tell of a walk: where it is, which of its marks are set and to what place, and how many pairs each bonder was
+ * given. Each pair has the number of returns and readings that there were before its last draw. */
+typedef struct walk_model {
+    uint32_t n;
+    uint64_t place, marked[8], given[8];
+    int set[8];
+} walk_model;
+
+static uint32_t drawn_in[64][64], returns;
+
+static void holds_model(const dw_walk *walk, const walk_model *model)
+{
+    expect(walk->degree == model->n && walk->position == model->place, "whole walk: position");
+    holds_next(*walk, "whole walk: next pair");
+    for (int m = 0; m < 8; m++) {
+        expect(walk->marks[m] == (model->set[m] ? model->marked[m] + 1 : 0), "whole walk: marks");
+        expect(walk->counts[m] == model->given[m], "whole walk: counts");
+    }
+}
+
+static void whole_mark(dw_walk *walk, walk_model *model, uint32_t number, int back)
+{
+    if (back) {
+        count(dw_go_back(walk, number), number > 7 ? 18 : model->set[number] ? 0 : 19, "whole walk: back");
+        if (number <= 7 && model->set[number]) {
+            model->place = model->marked[number];
+            returns++;
+        }
+        return;
+    }
+    count(dw_set_mark(walk, number), number > 7 ? 18 : 0, "whole walk: set");
+    if (number <= 7) {
+        model->set[number] = 1;
+        model->marked[number] = model->place;
+    }
+}
+
+static void whole_next(dw_walk *walk, walk_model *model, uint32_t number, int moves)
+{
+    uint32_t f, g, pair[2] = { 0, 0 };
+    if (moves && number > 7) {
+        count(dw_draw(walk, number, &f, &g), 20, "whole walk: no bonder");
+        return;
+    }
+    int spent = model->place == ref_length(model->n);
+    count(moves ? dw_draw(walk, number, &f, &g) : dw_look(walk, &f, &g), spent ? DW_SPENT : 0, "whole walk: next");
+    if (spent)
+        return;
+    ref_pair(model->n, model->place, &pair[0], &pair[1]);
+    expect(f == pair[0] && g == pair[1], "whole walk: pair");
+    if (moves) {
+        model->place++;
+        model->given[number]++;
+        expect(drawn_in[f][g] != returns, "whole walk: repeat");
+        drawn_in[f][g] = returns;
+    }
+}
+
+/* A file of a walk, and what the calls had told of it when it was saved. */
+typedef struct kept_walk {
+    uint8_t file[DW_SAVED_ROOM];
+    size_t size;
+    walk_model model;
+} kept_walk;
+
+/* The walk is saved, or the last file read again, over any bytes: then the walk is what it was, and a pair may come again. A file without
+ * its last byte leaves the walk, and so does saving. */
+static void whole_saved(dw_walk *walk, walk_model *model, kept_walk *kept, uint32_t kind)
+{
+    if (kind == 0) {
+        count(dw_save(walk, kept->file, sizeof kept->file, &kept->size), 0, "whole walk: save");
+        kept->model = *model;
+    } else if (kind == 1) {
+        count(dw_load(kept->file, kept->size - 1, walk), 9, "whole walk: file cut");
+    } else {
+        memset(walk, (int)draw(256), sizeof *walk);
+        count(dw_load(kept->file, kept->size, walk), 0, "whole walk: load");
+        *model = kept->model;
+        returns++;
+    }
+}
+
+/* The beginning of a walk by a start or by a file of either kind, and what it tells. The file is kept. */
+static void begin_walk(dw_walk *walk, walk_model *model, kept_walk *kept)
+{
+    uint64_t numbers[SAVED_NUMBERS] = { draw(3), 1 + draw(5) };
+    memset(model, 0, sizeof *model);
+    model->n = (uint32_t)numbers[OF_DEGREE];
+    if (numbers[OF_KIND] == 0) {
+        count(dw_start(model->n, walk), 0, "whole walk: start");
+        count(dw_save(walk, kept->file, sizeof kept->file, &kept->size), 0, "whole walk: first save");
+    } else {
+        numbers[OF_POSITION] = model->place = draw64() % (ref_length(model->n) + 1);
+        for (int i = 0; numbers[OF_KIND] == 2 && i < 8; i++) {
+            model->set[i] = (int)draw(2);
+            model->marked[i] = draw64() % (ref_length(model->n) + 1);
+            numbers[OF_MARKS + i] = model->set[i] ? model->marked[i] + 1 : 0;
+            numbers[OF_COUNTS + i] = model->given[i] = draw64() % (full - 1000);
+        }
+        kept->size = ref_save(numbers, kept->file);
+        count(dw_load(kept->file, kept->size, walk), 0, "whole walk: first load");
+    }
+    kept->model = *model;
+}
+
+/* A walk of many calls, from a start or a file on, against a model that sees the calls alone. A pair comes again only after a return or a
+ * reading, and the record always holds the one at its position, or 0 and 0 at the end. It has no guard bytes here. */
+static void try_whole_walk(void)
+{
+    dw_walk walk;
+    walk_model model;
+    kept_walk kept;
+    memset(&walk, (int)draw(256), sizeof walk);
+    memset(&kept, 0, sizeof kept);
+    memset(drawn_in, 0, sizeof drawn_in);
+    returns = 1;
+    begin_walk(&walk, &model, &kept);
+    for (int i = 0; i < 600; i++) {
+        holds_model(&walk, &model);
+        uint32_t kind = draw(26), number = some_number();
+        if (kind < 2)
+            whole_mark(&walk, &model, number, kind == 1);
+        else if (kind < 4)
+            whole_saved(&walk, &model, &kept, draw(3));
+        else
+            whole_next(&walk, &model, number, kind > 6);
+    }
+    holds_model(&walk, &model);
 }
 
 /* Some levels: rising in steps, 0 and 65535 among them now and then; often shuffled; now and then all with one remainder by 1024; sometimes
@@ -680,8 +1172,7 @@ static void try_write(void)
 /* A file that is often damaged at one place. */
 static size_t some_file(uint8_t *file)
 {
-    static const uint8_t odd[6][6] = { { 0x82, 0 }, { 0xff, 0xff, 0xff, 0xff, 0x0f }, { 0xff, 0xff, 0xff, 0xff, 0x10 },
-                                       { 0x80, 0x80, 0x80, 0x80, 0x80, 1 }, { 0x80, 0x80, 4 }, { 0xff, 0xff, 3 } };
+    uint64_t values[LONG_MOST];
     ref_trial t;
     uint8_t name[64] = { 0 };
     size_t counts[3];
@@ -693,10 +1184,14 @@ static size_t some_file(uint8_t *file)
         return at;
     if (kind == 1)
         file[draw(2) ? at : head] = (uint8_t)draw(256);
-    if (kind == 2)
-        memcpy(file + (draw(2) ? at : head), odd[draw(6)], 6);
+    if (kind == 2) {
+        const odd_number *odd = &odd_numbers[draw(odd_count)];
+        memcpy(file + (draw(2) ? at : head), odd->bytes, odd->size);
+    }
     if (kind == 3)
         file[size++] = (uint8_t)draw(256);
+    if (kind == 4 && draw(2))
+        ref_put(file, draw(2) ? at : head, values[draw((uint32_t)long_values(t.n, 65535, values))]);
     return size;
 }
 
@@ -732,7 +1227,8 @@ static const size_t enough[3] = { 64, 64, 64 };
 
 static void try_read(void)
 {
-    uint8_t bytes[1024];
+    uint8_t bytes[1024] = { 0 };
+    make_odd_numbers();
     size_t size = some_file(bytes), rooms[3];
     for (int i = 0; i < 3; i++)
         rooms[i] = draw(48) ? 64 + draw(2) : draw(65);
@@ -1155,27 +1651,27 @@ static void several_causes(void)
                 }
 }
 
-/* A file of numbers, a name, and bytes behind it. A number may have a needless last byte; the file may end before one, or inside it. */
+/* A file of numbers, a name, and bytes behind it. A number may have an odd form, behind which the file may end. */
 typedef struct raw_file {
-    uint32_t numbers[2 + 3 + 3 * 64 + 1];
-    uint8_t needless[2 + 3 + 3 * 64 + 1], name[3];
-    size_t count, ends, size, behind;
-    int inside;
+    uint64_t numbers[2 + 3 + 3 * 64 + 1];
+    const odd_number *odd[2 + 3 + 3 * 64 + 1]; /* NULL for a number as a writer puts it */
+    uint8_t name[3];
+    size_t count, size, behind;
 } raw_file;
 
 static size_t put_raw(const raw_file *raw, uint8_t *file)
 {
     size_t at = 0;
     for (size_t i = 0; i < raw->count; i++) {
-        if (i == raw->ends && raw->inside)
-            file[at++] = 0x80;
-        if (i == raw->ends)
-            return at;
-        at = ref_put(file, at, raw->numbers[i]);
-        if (raw->needless[i]) {
-            file[at - 1] |= 0x80;
-            file[at++] = 0;
+        const odd_number *odd = raw->odd[i];
+        if (odd == NULL) {
+            at = ref_put(file, at, raw->numbers[i]);
+            continue;
         }
+        memcpy(file + at, odd->bytes, odd->size);
+        at += odd->size;
+        if (odd->ends)
+            return at;
     }
     memcpy(file + at, raw->name, raw->size);
     memset(file + at + raw->size, 'A', raw->behind);
@@ -1195,59 +1691,65 @@ static raw_file raw_of(const ref_trial *t)
             raw.numbers[raw.count++] = t->levels[list][i];
     raw.numbers[raw.count++] = sizeof raw.name;
     raw.size = sizeof raw.name;
-    raw.ends = raw.count;
     memset(raw.name, 'A', sizeof raw.name);
     return raw;
 }
 
-/* One thing wrong with a file: at which of its numbers, or behind them; what it is refused by; and when that is looked for. */
-enum { NEEDLESS, VALUE, SHARED, ENDS_BEFORE, ENDS_INSIDE, NAME_LACKS, NAME_ODD, BEHIND };
+/* One thing wrong with a file: at which of its numbers, or behind them; what it is refused by; and when that is looked for. The value of
+ * an odd form is its place among them. */
+enum { ODD, VALUE, SHARED, NAME_LACKS, NAME_ODD, BEHIND };
 typedef struct damage {
     int kind;
-    uint32_t at, value, answer, when;
+    uint32_t at;
+    uint64_t value;
+    uint32_t answer, when;
 } damage;
 
-static damage damages[256];
+static damage damages[512];
 static uint32_t damaged;
 
-static void add_damage(int kind, uint32_t at, uint32_t value, uint32_t answer, uint32_t when)
+static void add_damage(int kind, uint32_t at, uint64_t value, uint32_t answer, uint32_t when)
 {
     damage one = { kind, at, value, answer, when };
     damages[damaged++] = one;
 }
 
-/* What is tried on one number: values that its field refuses, a needless byte, and the file's end before it and inside it. */
-static void add_number(uint32_t at, const uint32_t (*values)[2], int many)
+/* What is tried on one number: values that its field refuses, and a few odd forms, the file's end before it and inside it among them. */
+static void add_number(uint32_t at, const uint64_t (*values)[2], int many)
 {
     for (int i = 0; i < many; i++)
-        add_damage(VALUE, at, values[i][0], values[i][1], 8 * at + 1);
-    add_damage(NEEDLESS, at, 0, 10, 8 * at);
-    add_damage(ENDS_BEFORE, at, 0, 9, 8 * at);
-    add_damage(ENDS_INSIDE, at, 0, 9, 8 * at);
+        add_damage(VALUE, at, values[i][0], (uint32_t)values[i][1], 8 * at + 1);
+    for (uint32_t i = 0; i < odd_count; i++)
+        if (odd_numbers[i].few)
+            add_damage(ODD, at, i, odd_numbers[i].answer, 8 * at);
 }
 
 /* Everything that is tried on the file of a content. Number 8 is looked for behind the last of its codes. */
 static void add_damages(const ref_trial *t)
 {
+    const uint64_t high = UINT64_C(1) << 32, top = UINT64_C(1) << 63;
     uint32_t n = t->n, order = 1u << n, codes = (uint32_t)ref_settings(t->version), size = 2 + codes + codes * order;
-    const uint32_t versions[][2] = { { 0, 11 }, { 3, 11 }, { 257, 11 }, { 258, 11 }, { UINT32_MAX, 11 } };
-    const uint32_t degrees[][2] = { { 0, 12 }, { 1, 12 }, { 7, 12 }, { 256 + n, 12 } }, sizes[][2] = { { 41, 15 }, { UINT32_MAX, 15 } };
+    const uint64_t versions[][2] = { { 0, 11 }, { 3, 11 }, { 257, 11 }, { 258, 11 }, { high - 1, 11 }, { high + t->version, 11 } };
+    const uint64_t degrees[][2] = { { 0, 12 }, { 1, 12 }, { 7, 12 }, { 256 + n, 12 }, { high + n, 12 }, { UINT64_MAX, 12 } };
+    const uint64_t sizes[][2] = { { 41, 15 }, { high - 1, 15 }, { high + 3, 15 }, { top + 3, 15 } };
     damaged = 0;
-    add_number(0, versions, 5);
-    add_number(1, degrees, 4);
+    add_number(0, versions, 6);
+    add_number(1, degrees, 6);
     for (uint32_t i = 0; i < codes; i++) {
-        const uint32_t wrong[][2] = { { t->codes[i] ^ 3u << n, 6 }, { 1, 6 }, { 0, 6 }, { t->codes[i] & ~1u, 7 } };
-        add_number(2 + i, wrong, 4);
+        uint32_t code = t->codes[i];
+        const uint64_t wrong[][2] = { { code ^ 3u << n, 6 }, { 1, 6 }, { 0, 6 }, { code & ~1u, 7 }, { high + code, 6 }, { top + code, 6 } };
+        add_number(2 + i, wrong, 6);
         for (uint32_t k = 0; k < i; k++)
             add_damage(SHARED, 2 + i, 2 + k, 8, 8 * (1 + codes) + 2);
     }
     for (uint32_t list = 0; list < codes; list++)
         for (uint32_t place = 1; place < order; place += order - 2) {
-            uint32_t first = t->levels[list][0];
-            const uint32_t wrong[][2] = { { 65536, 13 }, { 65536 + first, 13 }, { UINT32_MAX, 13 }, { first, 14 } };
-            add_number(2 + codes + list * order + place, wrong, 4);
+            uint64_t first = t->levels[list][0];
+            const uint64_t wrong[][2] = { { 65536, 13 }, { 65536 + first, 13 }, { high - 1, 13 }, { first, 14 }, { high + first, 13 },
+                                          { UINT64_MAX, 13 } };
+            add_number(2 + codes + list * order + place, wrong, 6);
         }
-    add_number(size, sizes, 2);
+    add_number(size, sizes, 4);
     add_damage(NAME_LACKS, size + 1, 0, 9, 8 * size + 2);
     add_damage(NAME_ODD, size + 2, 0, 16, 8 * size + 3);
     add_damage(BEHIND, size + 3, 0, 17, 8 * size + 4);
@@ -1258,16 +1760,12 @@ static void spoil(raw_file *raw, const damage *d, int shared)
 {
     if ((d->kind == SHARED) != shared)
         return;
-    if (d->kind == NEEDLESS)
-        raw->needless[d->at] = 1;
+    if (d->kind == ODD)
+        raw->odd[d->at] = &odd_numbers[d->value];
     if (d->kind == VALUE)
         raw->numbers[d->at] = d->value;
     if (d->kind == SHARED)
         raw->numbers[d->at] = raw->numbers[d->value];
-    if (d->kind == ENDS_BEFORE || d->kind == ENDS_INSIDE) {
-        raw->inside = d->at < raw->ends ? d->kind == ENDS_INSIDE : raw->inside;
-        raw->ends = d->at < raw->ends ? d->at : raw->ends;
-    }
     raw->size -= d->kind == NAME_LACKS;
     raw->name[0] = d->kind == NAME_ODD ? 127 : raw->name[0];
     raw->behind += d->kind == BEHIND;
@@ -1306,10 +1804,43 @@ static void damages_of(uint32_t version, uint32_t n)
 
 static void two_damages(void)
 {
+    make_odd_numbers();
     for (uint32_t n = 2; n <= 4; n++)
         damages_of(1, n);
     for (uint32_t n = 3; n <= 4; n++)
         damages_of(2, n);
+}
+
+/* A number of a trial file in every odd form, and with every long value; its field refuses those above 4294967295 by its own rule. */
+static void long_number(const ref_trial *t, uint32_t at, uint32_t answer)
+{
+    uint8_t file[1024];
+    uint64_t values[LONG_MOST];
+    raw_file raw = raw_of(t);
+    int many = long_values(raw.numbers[at], UINT64_C(1) << (7 * (5 + at % 5)), values);
+    for (uint32_t i = 0; i < odd_count; i++) {
+        raw.odd[at] = &odd_numbers[i];
+        expect(read_lent(file, put_raw(&raw, file), enough) == odd_numbers[i].answer, "long numbers: odd form");
+    }
+    raw.odd[at] = NULL;
+    for (int i = 0; i < many; i++) {
+        raw.numbers[at] = values[i];
+        uint32_t got = read_lent(file, put_raw(&raw, file), enough);
+        expect(values[i] <= UINT32_MAX || got == answer, "long numbers: the field's rule");
+    }
+}
+
+/* Each number of files of both versions, of which those before the levels are few. */
+static void long_numbers(void)
+{
+    make_odd_numbers();
+    for (uint32_t version = 1; version <= 2; version++)
+        for (uint32_t n = version + 1; n <= 6; n++) {
+            ref_trial t = plain_content(version, n);
+            uint32_t codes = version + 1, last = 2 + codes + (codes << n);
+            for (uint32_t at = 0; at <= last; at++)
+                long_number(&t, at, at == 0 ? 11 : at == 1 ? 12 : at < 2 + codes ? 6 : at < last ? 13 : 15);
+        }
 }
 
 /* A file with every value at every byte, with every part of it from the front, and with a byte more. */
@@ -1731,6 +2262,20 @@ static void orders_and_lengths(void)
     of_other_orders();
 }
 
+/* No room for a saved walk, and no file. */
+static void null_saved(void)
+{
+    size_t size = 9;
+    dw_walk walk;
+    count(dw_start(2, &walk), 0, "null: start");
+    count(dw_save(&walk, NULL, 0, &size), 4, "null: walk to save");
+    count(dw_load(NULL, 0, &walk), 9, "null: walk to load");
+    expect(walk.degree == 2 && walk.f == 7 && walk.g == 5, "null: walk kept");
+    walk.degree = 0;
+    count(dw_save(&walk, NULL, 0, &size), 3, "null: bad walk to save");
+    expect(size == 9, "null: length kept");
+}
+
 /* A pointer whose length is 0 may be null, in every call that takes one; a name of length 0 is served, and at version 1 no times. */
 static void null_pointers(void)
 {
@@ -1746,6 +2291,7 @@ static void null_pointers(void)
     count(dw_sheet3(3, 9, 11, 13, NULL, 0), 4, "null: sheet of three");
     count(dw_check_sheet(3, NULL, 0), 4, "null: sheet to check");
     count(dw_check_sheet(0, NULL, 0), 26, "null: sheet of order 0");
+    null_saved();
     count(dw_read(NULL, 0, powers, 64, forces, 64, times, 64, &n, &f, &g, &at, &size, &v, &h), 9, "null: file to read");
     count(dw_read(file, room, NULL, 0, forces, 64, times, 64, &n, &f, &g, &at, &size, &v, &h), 4, "null: powers to read");
     count(dw_read(file, room, powers, 64, NULL, 0, times, 64, &n, &f, &g, &at, &size, &v, &h), 4, "null: forces to read");
@@ -1835,6 +2381,7 @@ int main(int argc, char **argv)
 {
     int scale = argc > 1 ? atoi(argv[1]) : 1000;
     uint64_t one = bit(1), four = bit(4), twelve = bit(12), codes = bit(6) | bit(7) | bit(8), spent = bit(63);
+    uint64_t files = bit(9) | bit(10) | bit(17);
     printf("seed %d\n", SEED);
     part("printed entries", printed_entries, 1, 2, 2, spent);
     part("whole lists", whole_lists, 1, 0, 0, 0);
@@ -1848,11 +2395,17 @@ int main(int argc, char **argv)
     part("two damages", two_damages, 1, 6, 17, four);
     part("damaged files", damaged_files, 1, 6, 17, 0);
     part("repeated levels", repeated_levels, 1, 14, 14, bit(7) | bit(9));
-    part("null pointers", null_pointers, 1, 2, 2, four | bit(9) | bit(26));
+    part("long numbers", long_numbers, 1, 8, 13, bit(6) | bit(15) | bit(17));
+    part("null pointers", null_pointers, 1, 2, 4, bit(9) | bit(26));
     part("kept record", kept_record, 1, 3, 3, spent);
     part("marks at the end", marks_at_the_end, 1, 18, 19, bit(3) | spent);
     part("full counts", full_counts, 1, 18, 21, bit(3) | spent);
     part("wrong pairs", wrong_pairs, 1, 18, 21, spent);
+    part("saved by hand", saved_by_hand, 1, 22, 23, bit(3) | bit(9));
+    part("saved numbers", saved_numbers, 1, 22, 23, files | bit(3));
+    part("saved files", saved_files, 1, 22, 23, files | bit(3));
+    part("saved rooms", saved_rooms, 1, 3, 4, 0);
+    part("old files", old_files, 1, 0, 0, spent);
     part("good sheets", good_sheets, 1, 0, 0, 0);
     part("changed sheets", changed_sheets, 1, 27, 28, 0);
     part("ways to fail", ways_to_fail, 1, 28, 28, 0);
@@ -1870,7 +2423,9 @@ int main(int argc, char **argv)
     part("dw_sheet3", try_sheet3, 20 * scale, 6, 8, four | twelve);
     part("dw_check_sheet", try_check_sheet, 50 * scale, 26, 28, four);
     part("the walk", try_walk, 50 * scale, 18, 21, one | bit(3) | spent);
-    part("whole walks", try_whole_walk, scale, 18, 20, spent);
+    part("whole walks", try_whole_walk, scale, 18, 20, bit(9) | spent);
+    part("dw_save", try_save, 50 * scale, 3, 4, 0);
+    part("dw_load", try_load, 200 * scale, 22, 23, files | bit(3));
     part("dw_write", try_write, 200 * scale, 14, 16, four | codes | bit(11) | twelve);
     part("dw_read", try_read, 200 * scale, 6, 17, four);
     return 0;

@@ -46,7 +46,7 @@ static uint64_t ref_length(uint32_t n)
     return 2 * ((UINT64_C(1) << (2 * (n - 1))) - 1) / 3;
 }
 
-static uint32_t ref_code(uint32_t n, uint32_t code)
+static uint32_t ref_code(uint32_t n, uint64_t code)
 {
     return ref_degree(code) != (int)n ? 6 : code % 2 == 0 ? 7 : 0;
 }
@@ -290,20 +290,27 @@ static int ref_settings(uint32_t version)
     return version == 1 ? 2 : 3;
 }
 
-static uint32_t ref_number(const uint8_t *file, size_t length, size_t *at, uint32_t *number)
+/* A number in groups of seven bits, the lowest first, and *at behind it. Its bytes are counted before anything is said of its value. */
+static uint32_t ref_number(const uint8_t *file, size_t length, size_t *at, uint64_t *number)
 {
-    uint64_t sum = 0;
-    for (int i = 0; i < 5; i++) {
-        if (*at == length)
+    const uint8_t *bytes = file + *at;
+    size_t left = length - *at, size = 0;
+    do {
+        if (size == 10)
+            return 10;
+        if (size == left)
             return 9;
-        uint8_t byte = file[(*at)++];
-        sum += (uint64_t)(byte & 127) << 7 * i;
-        if (byte < 128) {
-            *number = (uint32_t)sum;
-            return (i > 0 && byte == 0) || sum > UINT32_MAX ? 10 : 0;
-        }
+    } while (bytes[size++] >= 128);
+    uint64_t sum = 0;
+    for (size_t i = size; i > 0; i--) {
+        uint64_t group = bytes[i - 1] % 128;
+        if (sum > (UINT64_MAX - group) / 128)
+            return 10;
+        sum = 128 * sum + group;
     }
-    return 10;
+    *at += size;
+    *number = sum;
+    return size > 1 && bytes[size - 1] == 0 ? 10 : 0;
 }
 
 /* Whether the level at a place is equal to an earlier one. */
@@ -318,7 +325,8 @@ static int ref_repeated(const uint16_t *levels, size_t place)
 static uint32_t ref_levels(const uint8_t *file, size_t length, size_t *at, uint32_t count, uint16_t *levels)
 {
     for (uint32_t i = 0; i < count; i++) {
-        uint32_t level, form = ref_number(file, length, at, &level);
+        uint64_t level;
+        uint32_t form = ref_number(file, length, at, &level);
         if (form != 0)
             return form;
         if (level > 65535)
@@ -330,20 +338,26 @@ static uint32_t ref_levels(const uint8_t *file, size_t length, size_t *at, uint3
     return 0;
 }
 
+/* A number is narrowed only where its field has room for it. */
 static uint32_t ref_head(const uint8_t *file, size_t length, size_t *at, ref_trial *t)
 {
+    uint64_t number;
     uint32_t why;
-    if ((why = ref_number(file, length, at, &t->version)) != 0)
+    if ((why = ref_number(file, length, at, &number)) != 0)
         return why;
-    if (t->version != 1 && t->version != 2)
+    if (number != 1 && number != 2)
         return 11;
-    if ((why = ref_number(file, length, at, &t->n)) != 0)
+    t->version = (uint32_t)number;
+    if ((why = ref_number(file, length, at, &number)) != 0)
         return why;
-    if (t->n < 2 || t->n > 6)
+    if (number < 2 || number > 6)
         return 12;
-    for (int i = 0; i < ref_settings(t->version); i++)
-        if ((why = ref_number(file, length, at, &t->codes[i])) != 0 || (why = ref_code(t->n, t->codes[i])) != 0)
+    t->n = (uint32_t)number;
+    for (int i = 0; i < ref_settings(t->version); i++) {
+        if ((why = ref_number(file, length, at, &number)) != 0 || (why = ref_code(t->n, number)) != 0)
             return why;
+        t->codes[i] = (uint32_t)number;
+    }
     return ref_pairwise(t->n, t->codes, ref_settings(t->version));
 }
 
@@ -358,7 +372,8 @@ static uint32_t ref_printable(const uint8_t *name, size_t size)
 static uint32_t ref_read(const uint8_t *file, size_t length, ref_trial *t)
 {
     size_t at = 0;
-    uint32_t size, why = ref_head(file, length, &at, t);
+    uint64_t size;
+    uint32_t why = ref_head(file, length, &at, t);
     for (int i = 0; why == 0 && i < ref_settings(t->version); i++)
         why = ref_levels(file, length, &at, 1u << t->n, t->levels[i]);
     if (why != 0 || (why = ref_number(file, length, &at, &size)) != 0)

@@ -1,8 +1,8 @@
 #!/usr/bin/env python3
 """The values that the crate compare must print, computed another way: polynomials are sets of exponents in the arithmetic, lists of pairs
 and of triples are filtered by plain Euclid, the pairs sorted by the key that document 01's order gives, sites are worked cell by cell,
-sheets made elsewhere are judged by sorted rows and columns and by the set of their pairs, and trial files are read by a reader written from
-the documents. Run it to make crates/compare/stdout.
+sheets made elsewhere are judged by sorted rows and columns and by the set of their pairs, and trial files and saved walks are read and
+written from the documents. Run it to make crates/compare/stdout.
 
 With an argument the lists go up to that degree: reference.py 10"""
 import sys
@@ -163,7 +163,7 @@ THREES = [
 
 
 class Refused(Exception):
-    """With the number of document 01."""
+    """With the number of the documents."""
 
 
 def must(holds, number):
@@ -173,12 +173,21 @@ def must(holds, number):
 
 def number_at(file, at):
     """A number in groups of seven bits, lowest first, and the place behind it."""
-    ends = [k for k in range(at, min(at + 5, len(file))) if file[k] < 128]
-    must(ends or len(file) - at >= 5, 9)
+    ends = [k for k in range(at, min(at + 10, len(file))) if file[k] < 128]
+    must(ends or len(file) - at >= 10, 9)
     must(ends and (ends[0] == at or file[ends[0]]), 10)
     value = sum(file[k] % 128 << 7 * (k - at) for k in range(at, ends[0] + 1))
-    must(value < 2**32, 10)
+    must(value < 2**64, 10)
     return value, ends[0] + 1
+
+
+def number_bytes(value):
+    """A number as a file has it: the groups are the digits to the base 128."""
+    digits = [value % 128]
+    while value >= 128:
+        value //= 128
+        digits.append(value % 128)
+    return bytes([128 + digit for digit in digits[:-1]] + digits[-1:])
 
 
 def levels_at(file, at, count):
@@ -231,14 +240,40 @@ def reading(total, file):
     return mixed(total, *answer)
 
 
+def changes(file):
+    """The file with every value at every place."""
+    for at in range(len(file)):
+        for value in range(256):
+            yield file[:at] + bytes([value]) + file[at + 1 :]
+
+
 def damaged(files):
     total = 0
     for file in files:
-        for at in range(len(file)):
-            for value in range(256):
-                total = reading(total, file[:at] + bytes([value]) + file[at + 1 :])
+        for changed in changes(file):
+            total = reading(total, changed)
         for size in range(len(file) + 1):
             total = reading(total, file[:size])
+    return total
+
+
+def longer(file):
+    """The file, whose numbers have one byte each, with every number in five to eleven bytes: the lowest group is the old number's and the
+    others are 0, or all are 127; but for the last, which is one of seven. For each the file with its number and the file's parts: before
+    the number's last byte, with it, all."""
+    for at in range(len(file)):
+        for more in range(4, 11):
+            for groups in (bytes([file[at] | 128]) + b"\x80" * (more - 1), b"\xff" * more):
+                for last in (0, 1, 2, 13, 15, 16, 127):
+                    front = file[:at] + groups
+                    yield front, front + bytes([last]), front + bytes([last]) + file[at + 1 :]
+
+
+def long():
+    total = 0
+    for parts in longer(THREES[0]):
+        for part in parts:
+            total = reading(total, part)
     return total
 
 
@@ -253,7 +288,7 @@ def coded():
 
 
 def entries():
-    """Document 01's entries on files without the mark, and a number above 4294967295."""
+    """Document 01's entries on files without the mark, and a version above 4294967295."""
     total = 0
     for size in (40, 41):
         total = reading(total, FILES[0][:17] + bytes([size]) + b"A" * size)
@@ -270,6 +305,7 @@ def lists(most):
         print(n, len(pairs), total, len(pairs) if n <= 8 else 0)
 
 
+@cache
 def kept_words(k):
     """The automaton's steps, and for each state and m up to k how many words of m letters lead from it to (1,0)."""
     step = {("10", 0): "01", ("10", 1): "11", ("11", 0): "11", ("11", 1): "01", ("01", 0): "10", ("01", 1): "10"}
@@ -280,6 +316,7 @@ def kept_words(k):
     return step, count
 
 
+@cache
 def pair_at(n, position):
     """The pair at a position by counting choices one after the other: k, each degree, the bits, each letter."""
     k = 2
@@ -466,36 +503,170 @@ def made():
     print("made written", total)
 
 
+def length(n):
+    return 2 * (4 ** (n - 1) - 1) // 3
+
+
+class Walk:
+    """A mark is 0 or its position plus 1, as in saved walks. Degree 0 is the walk of a refusal."""
+
+    def __init__(self, n=0, place=0, marks=(0,) * 8, counts=(0,) * 8):
+        self.n, self.place, self.marks, self.counts = n, place, list(marks), list(counts)
+
+    def next_pair(self):
+        """0 and 0 at the end. Long lists are not made: there the pair is worked by counting."""
+        if self.n == 0 or self.place == length(self.n):
+            return 0, 0
+        return coprime_pairs(self.n)[self.place] if self.n <= 8 else pair_at(self.n, self.place)
+
+    def record(self):
+        return self.n, self.place, *self.marks, *self.counts, *self.next_pair()
+
+    def returns(self, mark):
+        if mark == 8:
+            return 18
+        if self.marks[mark] == 0:
+            return 19
+        self.place = self.marks[mark] - 1
+        return 0
+
+    def sets(self, mark):
+        if mark == 8:
+            return 18
+        self.marks[mark] = self.place + 1
+        return 0
+
+    def draws(self, bonder):
+        if bonder == 8:
+            return (20,)
+        if self.place == length(self.n):
+            return (255,)
+        if self.counts[bonder] == 10**18:
+            return (21,)
+        pair = self.next_pair()
+        self.place += 1
+        self.counts[bonder] += 1
+        return pair
+
+    def calls(self, count):
+        """What calls answer, each with the next pair after it. They draw for the bonders 0 to 8 in turn, but for every sixteenth, which sets
+        one of the marks 0 to 8, and every 64th, which goes back to one."""
+        for i in range(count):
+            if self.n == 0:
+                yield 3
+            elif i % 64 == 45:
+                yield self.returns(i // 64 % 9)
+            elif i % 16 == 5:
+                yield self.sets(i // 16 % 9)
+            else:
+                yield from self.draws(i % 9)
+            yield from self.next_pair()
+
+
 def walks():
     """For each degree a checksum of what a start and 3000 calls answer, each with the next pair after it, and of the position and the counts
-    after all: the calls draw for the bonders 0 to 8 in turn, but for every sixteenth, which sets one of the marks 0 to 8, and every 64th,
-    which goes back to one. The next pair is 0 and 0 at the end. Degrees 0 and 32 get 1 and then always 3."""
+    after all. Degrees 0 and 32 get 1 and then always 3."""
     for n in (*range(9), 32):
-        if n in (0, 32):
-            print("walk", n, mixed(0, 1, 0, 0, *[3, 0, 0] * 3000, *[0] * 9))
-            continue
-        entries, place, marks, given = [*coprime_pairs(n), (0, 0)], 0, {}, [0] * 8
-        total = mixed(0, 0, *entries[0])
-        for i in range(3000):
-            if i % 64 == 45:
-                mark = i // 64 % 9
-                total = mixed(total, 18 if mark == 8 else 0 if mark in marks else 19)
-                place = marks.get(mark, place)
-            elif i % 16 == 5:
-                mark = i // 16 % 9
-                total = mixed(total, 18 if mark == 8 else 0)
-                if mark < 8:
-                    marks[mark] = place
-            elif i % 9 == 8:
-                total = mixed(total, 20)
-            elif place < len(entries) - 1:
-                total = mixed(total, *entries[place])
-                place += 1
-                given[i % 9] += 1
-            else:
-                total = mixed(total, 255)
-            total = mixed(total, *entries[place])
-        print("walk", n, mixed(total, place, *given))
+        walk = Walk(n if n < 32 else 0)
+        total = mixed(0, 0 if walk.n else 1, *walk.next_pair(), *walk.calls(3000))
+        print("walk", n, mixed(total, walk.place, *walk.counts))
+
+
+def saved(walk):
+    return b"".join(number_bytes(number) for number in (2, walk.n, walk.place, *walk.marks, *walk.counts))
+
+
+def loaded(file):
+    """The walk of a file of kind 1 or 2, in the words of request i."""
+    kind, at = number_at(file, 0)
+    must(kind in (1, 2), 22)
+    numbers = []
+    for place in range(2 if kind == 1 else 18):
+        number, at = number_at(file, at)
+        must(place < 10 or number <= 10**18, 23)
+        numbers.append(number)
+    must(at == len(file), 17)
+    n, place, marks, counts = *numbers[:2], numbers[2:10] or [0] * 8, numbers[10:] or [0] * 8
+    must(1 <= n <= 31 and place <= length(n) and max(marks) <= length(n) + 1, 3)
+    return Walk(n, place, marks, counts)
+
+
+def loading(total, file):
+    """The checksum with the answer and the record, and the walk."""
+    try:
+        walk, answer = loaded(file), 0
+    except Refused as refused:
+        walk, answer = Walk(), *refused.args
+    return mixed(total, answer, *walk.record()), walk
+
+
+def saving(total, walk, good, rooms):
+    """The checksum with what saving answers in each room, and its bytes after that, which were 170."""
+    file = saved(walk)
+    for room in rooms:
+        written = file if good and len(file) <= room else b""
+        total = mixed(total, len(written) if written else 4 if good else 3, *written, *[170] * (room - len(written)))
+    return total
+
+
+def old(n, place):
+    return number_bytes(1) + number_bytes(n) + number_bytes(place)
+
+
+def damaged_walks(file):
+    """Every change of one byte, then every length up to 160, with bytes 170 behind the file."""
+    total = 0
+    for changed in changes(file):
+        total = loading(total, changed)[0]
+    for size in range(161):
+        total = loading(total, (file + b"\xaa" * 160)[:size])[0]
+    return total
+
+
+SMALL = bytes([2, 4, 42, 0, 1, 21, 42, 43, 0, 7, 2, 0, 1, 2, 3, 64, 127, 5, 9])
+
+
+def saves():
+    """For each walk, which has made 100 calls from its place with counts of one to nine bytes: degree, the file's length, and checksums of
+    160 bytes that held 170 and are written to, of the walk read back with 40 calls on it, and of damaged files. Then one of a small file
+    with longer numbers, which also have a byte behind them; one of what saving says of records at the limits and above, in much room and
+    in little, and one of a record with the least and the greatest numbers of one to nine bytes; for each degree one of files of kind 1 at
+    ten places; and two of such files damaged."""
+    for n, place in ((1, 0), (2, 0), (4, 20), (17, length(17) - 40), (31, 123456789012345678)):
+        walk = Walk(n, place, [0] * 8, [0, 127, 128, 2**14 - 1, 2**32 - 1, 10**18 - 5, 10**18, 5])
+        for _ in walk.calls(100):
+            pass
+        file = saved(walk)
+        total, again = loading(0, file)
+        total = mixed(mixed(total, *again.calls(40)), *again.record())
+        print("saved", n, len(file), mixed(0, *file, *[170] * (160 - len(file))), total, damaged_walks(file))
+    total = 0
+    for parts in longer(SMALL):
+        for part in (*parts, parts[-1] + b"\0"):
+            total = loading(total, part)[0]
+    print("saved long", total)
+    total = 0
+    for n, place, mark, count, good in (
+        (0, 0, 0, 0, False),
+        (32, 0, 0, 0, False),
+        (4, 42, 43, 10**18, True),
+        (5, 170, 127, 10**18, True),
+        (5, 170, 171, 10**18, True),
+        (5, 171, 171, 10**18, False),
+        (5, 170, 172, 10**18, False),
+        (5, 170, 171, 10**18 + 1, False),
+    ):
+        total = saving(total, Walk(n, place, [*range(7), mark], [*range(7, 14), count]), good, (160, 28, 27))
+    ends = [number for groups in range(1, 9) for number in (128**groups - 1, 128**groups)]
+    print("saved limits", total, saving(0, Walk(31, 0, ends[:8], ends[8:]), True, (160, 83, 82)))
+    for n in range(33):
+        total, end = 0, length(n) if 1 <= n <= 31 else 0
+        places = 0, end // 9, end // 5, end // 3, end // 2, end - end // 3, end - end // 7, end - end % 7, end, end + 1
+        for place in places:
+            total, walk = loading(total, old(n, place))
+            total = mixed(mixed(total, *walk.calls(10)), *walk.record())
+        print("kind 1", n, total)
+    print("kind 1 damaged", damaged_walks(old(4, 42)), damaged_walks(old(31, length(31))))
 
 
 def spread():
@@ -518,7 +689,9 @@ if __name__ == "__main__":
     sheets3()
     made()
     walks()
+    saves()
     print(spread(), 101)
     print(damaged(FILES))
     print(entries())
     print("version 2", damaged(THREES), coded())
+    print("long", long())

@@ -37,8 +37,8 @@ static size_t used(void (*job)(void))
 static uint32_t version, n, f, g, h, row, col, first, second, third, codes[256], status;
 static uint64_t position, number;
 static uint16_t levels[DW_LEVELS_ROOM], powers[DW_LEVELS_ROOM], forces[DW_LEVELS_ROOM], times[DW_LEVELS_ROOM];
-static uint8_t name[DW_NAME_ROOM], file[DW_FILE_ROOM], sheet[DW_SHEET3_ROOM];
-static size_t room, length, count, offset;
+static uint8_t name[DW_NAME_ROOM], file[DW_FILE_ROOM], sheet[DW_SHEET3_ROOM], saved[DW_SAVED_ROOM];
+static size_t room, length, saved_length, count, offset;
 static dw_walk walk;
 
 static void nothing(void)
@@ -142,6 +142,16 @@ static void calls_go_back(void)
     status = dw_go_back(&walk, n % DW_MARKS);
 }
 
+static void calls_save(void)
+{
+    status = dw_save(&walk, saved, sizeof saved, &saved_length);
+}
+
+static void calls_load(void)
+{
+    status = dw_load(saved, saved_length, &walk);
+}
+
 static struct {
     const char *name;
     void (*job)(void);
@@ -152,18 +162,19 @@ static struct {
     { "dw_pair_at", calls_pair_at, 0 }, { "dw_unordered_pair_at", calls_unordered_pair_at, 0 }, { "dw_pairs_from", calls_pairs_from, 0 },
     { "dw_position_of", calls_position_of, 0 }, { "dw_chain", calls_chain, 0 }, { "dw_site", calls_site, 0 },
     { "dw_look", calls_look, 0 }, { "dw_draw", calls_draw, 0 }, { "dw_set_mark", calls_set_mark, 0 }, { "dw_go_back", calls_go_back, 0 },
+    { "dw_save", calls_save, 0 }, { "dw_load", calls_load, 0 },
     /* With a position among triples. */
     { "dw_triple_at", calls_triple_at, 0 }, { "dw_sheet3", calls_sheet3, 0 },
     /* With a degree of sheets, and for files a version. */
     { "dw_write", calls_write, 0 }, { "dw_read", calls_read, 0 }, { "dw_sheet", calls_sheet, 0 },
     { "dw_check_sheet", calls_check_sheet, 0 },
 };
-enum { PLACED = 3, OF_TRIPLES = 13, OF_SHEETS = 15, CALLS = sizeof calls / sizeof calls[0] };
+enum { PLACED = 3, OF_TRIPLES = 15, OF_SHEETS = 17, CALLS = sizeof calls / sizeof calls[0] };
 
 static int served = 1;
 
 /* Some of the calls one after the other; those that take codes take the pair of dw_pair_at or the triple of dw_triple_at, dw_read takes
- * what dw_write wrote, and dw_check_sheet what dw_sheet wrote. */
+ * what dw_write wrote, dw_load what dw_save wrote, and dw_check_sheet what dw_sheet wrote. */
 static void measure(size_t from, size_t to)
 {
     for (size_t i = from; i < to; i++) {

@@ -109,7 +109,7 @@ fn byte(x: u8) -> u64 {
 }
 
 // The first `count` bytes.
-fn bytes(sum: u64, sheet: &[u8], count: usize) -> u64 {
+pub fn bytes(sum: u64, sheet: &[u8], count: usize) -> u64 {
     let mut total = sum;
     let mut i: usize = 0;
     while i < sheet.len() {

@@ -231,12 +231,17 @@ fn reading(sum: u64, file: &[u8]) -> u64 {
     }
 }
 
-// A byte of the file with one byte changed; 0 behind its end.
+// A byte of the file; 0 behind its end.
+fn file_byte(file: &[u8], i: usize) -> u8 {
+    if i < file.len() { file[i] } else { 0 }
+}
+
+// A byte of the file with one byte changed.
 fn changed_byte(file: &[u8], at: usize, value: u8, i: usize) -> u8 {
     if i == at {
         return value;
     }
-    if i < file.len() { file[i] } else { 0 }
+    file_byte(file, i)
 }
 
 // A part from the front.
@@ -354,9 +359,85 @@ fn named(sum: u64, size: u8) -> u64 {
     array_front(sum, &bytes, 18 + size as usize)
 }
 
-// Document 01's entries on files without the mark: names of 40 and 41 bytes, 82 00 for a version. Then a number above the greatest.
+// Document 01's entries on files without the mark: names of 40 and 41 bytes, 82 00 for a version. Then a version of 33 bits.
 pub fn entries_sum() -> u64 {
     let s = named(named(0, 40), 41);
     let s = reading(s, b"\x82\x00");
     reading(s, b"\xff\xff\xff\xff\x1f")
+}
+
+// Where the last byte of a number stands that is written in the form-th of 98 longer ways: there are five to eleven bytes.
+pub fn long_end(form: u32) -> usize {
+    (form / 14 % 7) as usize + 4
+}
+
+fn long_last(form: u32) -> u8 {
+    match form % 7 {
+        0 => 0,
+        1 => 1,
+        2 => 2,
+        3 => 13,
+        4 => 15,
+        5 => 16,
+        _ => 127,
+    }
+}
+
+// A byte before the last one: all are 255, or they have the groups of the number that stood there.
+fn long_part(form: u32, old: u8, k: usize) -> u8 {
+    if form / 7 % 2 == 1 {
+        return 255;
+    }
+    if k == 0 { old % 128 + 128 } else { 128 }
+}
+
+// A byte of the file with the number at one place, which has one byte, written longer.
+fn long_byte(file: &[u8], at: usize, form: u32, i: usize) -> u8 {
+    if i < at {
+        return file_byte(file, i);
+    }
+    let k = i - at;
+    let end = long_end(form);
+    if k < end {
+        return long_part(form, file_byte(file, at), k);
+    }
+    if k == end {
+        return long_last(form);
+    }
+    file_byte(file, i - end)
+}
+
+pub fn long_file(file: &[u8], at: usize, form: u32) -> [u8; 64] {
+    let mut bytes = [0u8; 64];
+    for i in 0..64usize {
+        bytes[i] = long_byte(file, at, form, i);
+    }
+    bytes
+}
+
+// The first file of version 2, whose numbers have one byte each, with a longer number: cut before the number's last byte, cut behind it,
+// and whole.
+fn long(sum: u64, at: usize, form: u32) -> u64 {
+    let bytes = long_file(&THREE, at, form);
+    let end = long_end(form) % 16;
+    let s = front(sum, &bytes, at % 64 + end);
+    let s = front(s, &bytes, at % 64 + end + 1);
+    front(s, &bytes, 30 + end)
+}
+
+fn long_forms(sum: u64, at: usize) -> u64 {
+    let mut total = sum;
+    for form in 0..98u32 {
+        total = long(total, at, form);
+    }
+    total
+}
+
+// The file with every number written longer.
+pub fn long_sum() -> u64 {
+    let mut total: u64 = 0;
+    for at in 0..30usize {
+        total = long_forms(total, at);
+    }
+    total
 }

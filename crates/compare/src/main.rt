@@ -4,6 +4,7 @@ mod files;
 mod lists;
 mod made;
 mod random;
+mod saves;
 mod walks;
 
 use libc::STDOUT_FILENO;
@@ -195,6 +196,44 @@ fn walk_lines() {
     walk_line(32);
 }
 
+// Degree, length of the file of a walk, and checksums of its bytes, of the walk that is read back, and of damaged files.
+fn saved_line(n: u32, position: u64) {
+    let file = saves::walk_file(n, position);
+    io::write_all(STDOUT_FILENO, b"saved ");
+    number(n as u64);
+    io::write_all(STDOUT_FILENO, b" ");
+    number(file.size as u64);
+    io::write_all(STDOUT_FILENO, b" ");
+    number(saves::file_sum(file));
+    io::write_all(STDOUT_FILENO, b" ");
+    number(saves::back_sum(file));
+    io::write_all(STDOUT_FILENO, b" ");
+    line(saves::damaged_sum(file));
+}
+
+// At the end of the list of degree 1, which has no pairs; from the start; from the middle; up to the end; far inside.
+fn saved_lines() {
+    saved_line(1, 0);
+    saved_line(2, 0);
+    saved_line(4, 20);
+    saved_line(17, 2863311490);
+    saved_line(31, 123456789012345678);
+}
+
+// Degree and checksum of walks from files of kind 1; degrees 0 and 32 are refused throughout.
+fn old_line(n: u32) {
+    io::write_all(STDOUT_FILENO, b"kind 1 ");
+    number(n as u64);
+    io::write_all(STDOUT_FILENO, b" ");
+    line(saves::old_sum(n));
+}
+
+fn old_lines() {
+    for n in 0..33u32 {
+        old_line(n);
+    }
+}
+
 fn main() {
     line(checks::arithmetic_sum());
     line(checks::chain_sum());
@@ -217,6 +256,18 @@ fn main() {
     io::write_all(STDOUT_FILENO, b"made written ");
     line(made::written_sum());
     walk_lines();
+    saved_lines();
+    io::write_all(STDOUT_FILENO, b"saved long ");
+    line(saves::long_sum());
+    io::write_all(STDOUT_FILENO, b"saved limits ");
+    number(saves::saving_sum());
+    io::write_all(STDOUT_FILENO, b" ");
+    line(saves::widths_sum());
+    old_lines();
+    io::write_all(STDOUT_FILENO, b"kind 1 damaged ");
+    number(saves::damaged_old_sum(4, 42));
+    io::write_all(STDOUT_FILENO, b" ");
+    line(saves::damaged_old_sum(31, 768614336404564650));
     number(lists::spread_sum());
     io::write_all(STDOUT_FILENO, b" ");
     line(lists::spread_found());
@@ -226,4 +277,6 @@ fn main() {
     number(files::damaged3_sum());
     io::write_all(STDOUT_FILENO, b" ");
     line(files::coded_sum());
+    io::write_all(STDOUT_FILENO, b"long ");
+    line(files::long_sum());
 }

@@ -6,9 +6,9 @@ use walk::Next;
 use walk::Walk;
 
 // A record, and the checksum of what the calls before it answered and of the pairs that records held after them.
-struct Summed {
-    walk: Walk,
-    sum: u64,
+pub struct Summed {
+    pub walk: Walk,
+    pub sum: u64,
 }
 
 fn shown(sum: u64, answer: Next) -> u64 {
@@ -29,7 +29,7 @@ fn drawn(sum: u64, walk: Walk, bonder: u32) -> Summed {
     }
 }
 
-fn status(answer: Change) -> u64 {
+pub fn status(answer: Change) -> u64 {
     match answer {
         Change::Done => 0,
         Change::Refused(refusal) => refusal.number() as u64,
@@ -68,7 +68,7 @@ fn kept(at: Summed) -> Summed {
     }
 }
 
-fn counted(sum: u64, counts: [u64; 8]) -> u64 {
+pub fn counted(sum: u64, counts: [u64; 8]) -> u64 {
     let mut all = sum;
     for i in 0..8usize {
         all = mixed(all, counts[i]);
@@ -76,13 +76,19 @@ fn counted(sum: u64, counts: [u64; 8]) -> u64 {
     all
 }
 
+// The first `count` calls, each with the pair that the record holds after it.
+pub fn calls(from: Summed, count: u64) -> Summed {
+    let mut at = from;
+    for i in 0..count {
+        at = kept(called(at, i));
+    }
+    at
+}
+
 // The checksum of a start and 3000 calls, of the pair that the record holds after each, and of the position and the counts after all.
 pub fn walk_sum(n: u32) -> u64 {
     let started = walk::start(n);
-    let mut at = kept(changed(0, started));
-    for i in 0..3000u64 {
-        at = kept(called(at, i));
-    }
+    let at = calls(kept(changed(0, started)), 3000);
     let end = at.walk;
     let counts = end.counts;
     counted(mixed(at.sum, end.position), counts)

@@ -1,17 +1,18 @@
 -- What an answer of the library tells, once its reply is known to be the one that the contract cites; and what is in a lent record after a
 -- call that stores one only where it returns 0.
 use mathlib.Core.Path.{_≡_, refl, sym, ap, subst, _∙_}
-use mathlib.Core.Bool.{Bool, true, false, not}
-use mathlib.Core.List.{[], _∷_}
+use mathlib.Core.Bool.{Bool, true, false, not, cond}
+use mathlib.Core.List.{List}
 use Prim.Native.Nat.{ℕ}
-use native.Mathlib.Omega.{arith}
-use lib.Dec.{T, T-not, eqb, eqb→eq}
-use Rattle.reply.specs.Reply.{Reply, served, refused, spent, _gives_, unless, after}
-use Rattle.poly.specs.Limits.{outside}
+use lib.Dec.{T, T-not, eqb}
+use Rattle.reply.specs.Reply.{Reply, served, refused, spent, after}
 use Rattle.walk.specs.declared.Walk.{Walk}
-use Rattle.walk.specs.Walks.{begun, startReply, drawReply, movedOn, afterDraw, setMarkReply, afterSetMark, goBackReply, afterGoBack}
+use Rattle.walk.specs.declared.Change.{Change}
+use Rattle.walk.specs.declared.Change.the-variants.{Done, Refused}
+use Rattle.walk.specs.Walks.{changeReply, drawReply, movedOn, afterDraw, setMarkReply, afterSetMark, goBackReply, afterGoBack}
 use Rattle.console.specs.Status.{status, value}
-use Rattle.console.specs.Records.{Changes, Gives, Starts, Draws, SetsMark, GoesBack}
+use Rattle.console.specs.Records.{Changes, Stores, Gives, Writes, Draws, SetsMark, GoesBack}
+use Rattle.console.proofs.Refusals.{not-0}
 
 -- the reply to a call, from the answer that its contract speaks of and the variant that the answer is known to be
 pub told : {A : Type 0} (reply : A → Reply) {answer variant : A} {expected : Reply} → answer ≡ variant → reply answer ≡ expected
@@ -36,6 +37,10 @@ given e {f} {g} said = record {
   first = said .first ∙ holds e 0 f;
   second = said .second ∙ holds e 1 g;
 }
+
+pub wrote : {answer reply : Reply} → answer ≡ reply → {file out′ : List ℕ} {size s : ℕ} → s ≡ status answer → out′ ≡ file
+    → Writes reply file size out′ (value 0 answer size) s
+wrote e {size = size} s out = record { returned = s ∙ returned e; outAfter = out; sizeAfter = holds e 0 size }
 
 abbrev Unserved : Reply → Type 0
 Unserved reply = status reply ≡ 0 → ⊥
@@ -64,21 +69,41 @@ pub back-unserved : (walk walk′ : Walk) (mark s : ℕ) → GoesBack walk mark 
 unfolding afterGoBack
 back-unserved walk walk′ mark s e t = unchanged (goBackReply walk mark) _ walk e t
 
--- a start that is served stores the same record whatever stood there
-begun-same : (out : Bool) → status (unless (out gives 1 ∷ []) (served [])) ≡ 0 → (new old old′ : Walk)
-    → after (unless (out gives 1 ∷ []) (served [])) new old ≡ after (unless (out gives 1 ∷ []) (served [])) new old′
-begun-same true zero new old old′ = absurd (omega arith)
-begun-same false zero new old old′ = refl
+-- the new record is taken where the status is 0, and that is where the call is served
+taken : (answer : Change) (new walk : Walk)
+    → cond (eqb (status (changeReply answer)) 0) new walk ≡ after (changeReply answer) new walk
+taken Done new walk = refl
+taken (Refused why) new walk = ap (λ (b : Bool). cond b new walk) (not-0 why)
 
-module _ (n : ℕ) (walk : Walk) {walk′ : Walk} {s : ℕ} (e : Starts n (begun 0) walk′ s) where
-  pub start-served : T (eqb s 0) → Starts n walk walk′ s
-  start-served t = record {
-    returned = e .returned;
-    stored = e .stored ∙ begun-same (outside 1 31 n) (sym (e .returned) ∙ eqb→eq s 0 t) (begun n) (begun 0) walk;
-  }
+pub stores : (answer : Change) {reply : Reply} {new given : Walk} → changeReply answer ≡ reply → given ≡ new
+    → {stored : Walk} {s : ℕ} → (s ≡ status (changeReply answer)) × (stored ≡ given)
+    → Stores (λ walk. Changes reply (after reply new walk)) stored s
+stores answer {new = new} e is-new {stored} {s} (s-is, is-given) walk = record {
+  returned = s-is ∙ returned e;
+  stored = rw (s-is, is-given, is-new, taken answer new walk) (ap (λ (r : Reply). after r new walk) e);
+}
 
-  pub start-refused : T (not (eqb s 0)) → Starts n walk walk s
-  start-refused t = unchanged (startReply n) (begun n) walk (record { returned = e .returned; stored = refl }) t
+-- a start's record is another where it is refused, but is taken only where it is not
+pub after-twice : (reply : Reply) (new other walk : Walk) → after reply (after reply new other) walk ≡ after reply new walk
+after-twice (served values) new other walk = refl
+after-twice (refused number) new other walk = refl
+after-twice spent new other walk = refl
+
+-- so what the call says holds of the new record where the status is 0, and else of the one that stands there
+module _ (says : Walk → Walk → ℕ → Type 0) (new : Walk) (s : ℕ) (stored : Stores says new s) (walk : Walk) where
+  pub new-there : T (eqb s 0) → says walk new s
+  new-there t = go (eqb s 0) t (stored walk)
+    where
+      go : (b : Bool) → T b → says walk (cond b new walk) s → says walk new s
+      go true t e = e
+      go false t e = absurd t
+
+  pub left-there : T (not (eqb s 0)) → says walk walk s
+  left-there t = go (eqb s 0) t (stored walk)
+    where
+      go : (b : Bool) → T (not b) → says walk (cond b new walk) s → says walk walk s
+      go true t e = absurd t
+      go false t e = e
 
 -- a draw changes neither the degree nor the marks
 abbrev pub moved : Walk → Walk → Walk

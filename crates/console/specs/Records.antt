@@ -1,7 +1,9 @@
 -- The library's records and replies, put together from what C passes.
 use Prim.Native.Nat.{ℕ}
+use mathlib.Core.Bool.{cond}
 use mathlib.Core.List.{List, []}
 use mathlib.Core.Path.{_≡_}
+use lib.Dec.{eqb}
 use lib.ListN.{length, take, drop}
 use Rattle.reply.specs.Reply.{Reply, after}
 use Rattle.trial.specs.Trial.{Trial}
@@ -9,6 +11,8 @@ use Rattle.trial.specs.Replies.{readReply, nameRead, levelsAfter, writeReply, f
 use Rattle.trial_reader.specs.Answers.{readInto}
 use Rattle.walk.specs.declared.Walk.{Walk}
 use Rattle.walk.specs.Walks.{begun, startReply, lookReply, drawReply, afterDraw, setMarkReply, afterSetMark, goBackReply, afterGoBack}
+use Rattle.saved.specs.Saved.{load}
+use Rattle.saved.specs.Replies.{saveReply, fileAfter as savedAfter, loadReply, recordRead}
 use Rattle.console.specs.Status.{status, value}
 
 -- The reply to reading a file with these slices lent for the levels: degree, f, g, the name's offset and length, the version and, in
@@ -21,15 +25,33 @@ pub record Changes (reply : Reply) (changed walk′ : Walk) (r : ℕ) : Type 0 w
   pub returned : r ≡ status reply
   pub stored : walk′ ≡ changed
 
--- A start, with what stood in the record before; setting a mark; going back to one.
+-- A start, with what stood in the record before; reading a saved walk, likewise; setting a mark; going back to one.
 abbrev pub Starts : ℕ → Walk → Walk → ℕ → Type 0
 Starts n walk = Changes (startReply n) (after (startReply n) (begun n) walk)
+
+abbrev pub Loaded : List ℕ → Walk → Walk → ℕ → Type 0
+Loaded file walk = Changes (loadReply (load file)) (after (loadReply (load file)) (recordRead (load file)) walk)
 
 abbrev pub SetsMark : Walk → ℕ → Walk → ℕ → Type 0
 SetsMark walk mark = Changes (setMarkReply walk mark) (afterSetMark walk mark)
 
 abbrev pub GoesBack : Walk → ℕ → Walk → ℕ → Type 0
 GoesBack walk mark = Changes (goBackReply walk mark) (afterGoBack walk mark)
+
+-- Storing the new record in the lent one exactly where the status is 0 makes such a call's promise true, whatever stood there.
+abbrev pub Stores : (Walk → Walk → ℕ → Type 0) → Walk → ℕ → Type 0
+Stores says new s = (walk : Walk) → says walk (cond (eqb s 0) new walk) s
+
+-- A call that writes a file: what it returns, the slice after it, and what stands behind the pointer for the length, with what stood there
+-- before.
+pub record Writes (reply : Reply) (written : List ℕ) (size : ℕ) (out′ : List ℕ) (size′ r : ℕ) : Type 0 where
+  pub returned : r ≡ status reply
+  pub outAfter : out′ ≡ written
+  pub sizeAfter : size′ ≡ value 0 reply size
+
+-- Saving a walk, with the slice before it.
+abbrev pub WalkSaved : Walk → List ℕ → ℕ → List ℕ → ℕ → ℕ → Type 0
+WalkSaved walk out = Writes (saveReply walk (length out)) (savedAfter walk out)
 
 -- A call that gives a pair: what it returns, and what stands behind the two pointers after it, with what stood there before.
 pub record Gives (reply : Reply) (f g f′ g′ r : ℕ) : Type 0 where
@@ -77,8 +99,6 @@ pub record TrialRead (file powers forces times : List ℕ) (old : FileValues) (p
   pub named : after (trialReply file powers forces times) (take (new .size) (drop (new .name) file)) []
       ≡ nameRead (readInto file powers forces times)
 
--- Writing a file: what it returns, the slice after it, and what stands behind the pointer for the length.
-pub record TrialWritten (t : Trial) (out : List ℕ) (size : ℕ) (out′ : List ℕ) (size′ r : ℕ) : Type 0 where
-  pub returned : r ≡ status (writeReply t (length out))
-  pub outAfter : out′ ≡ fileAfter t out
-  pub sizeAfter : size′ ≡ value 0 (writeReply t (length out)) size
+-- Writing a trial file, with the slice before it.
+abbrev pub TrialWritten : Trial → List ℕ → ℕ → List ℕ → ℕ → ℕ → Type 0
+TrialWritten t out = Writes (writeReply t (length out)) (fileAfter t out)

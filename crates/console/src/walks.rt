@@ -1,18 +1,30 @@
 // Walks, for C. An exported function that takes a lent record is proved by hand, over a core that takes and gives the record by value.
 use crate::SPENT;
+use saved::Saved;
 use walk::Change;
 use walk::Changed;
 use walk::Next;
 use walk::Walk;
 ghost use mathlib.Core.Path.{_≡_};
-ghost use Rattle.walk.specs.Walks.{begun, changeReply, nextReply};
+ghost use Rattle.walk.specs.Walks.{changeReply, nextReply};
 ghost use Rattle.console.specs.Status.{status};
-ghost use Rattle.console.specs.Records.{Gives, Starts, Looks, Draws, SetsMark, GoesBack};
+ghost use Rattle.console.specs.Records.{Stores, Gives, Starts, Looks, Draws, SetsMark, GoesBack};
+ghost use Rattle.console.specs.Records.{WalkSaved, Loaded};
 
 // What a call that changes a record returns, and the record to store where that is 0.
 struct Outcome {
     status: u32,
     walk: Walk,
+}
+
+// What a call with this answer returns.
+fn status_of(answer: Change) -> u32
+    ensures { λ r. ⌜ r ≡ status (changeReply answer) ⌝ }
+{
+    match answer {
+        Change::Refused(refusal) => refusal.number(),
+        Change::Done => 0,
+    }
 }
 
 // The status of this answer, and its record.
@@ -21,21 +33,24 @@ fn outcome_of(changed: Changed) -> Outcome
 {
     let answer = changed.answer;
     let walk = changed.walk;
-    match answer {
-        Change::Refused(refusal) => Outcome {
-            status: refusal.number(),
-            walk,
-        },
-        Change::Done => Outcome { status: 0, walk },
-    }
+    let status = status_of(answer);
+    Outcome { status, walk }
 }
 
 // Where a start is refused, its record is served by no call, and is not stored.
 fn started(n: u32) -> Outcome
-    ensures { λ r. ⌜ Starts n (begun 0) (r .walk) (r .status) ⌝ }
+    ensures { λ r. ⌜ Stores (Starts n) (r .walk) (r .status) ⌝ }
 {
     let start = walk::start(n);
     outcome_of(start)
+}
+
+// So it is where a saved walk is refused.
+fn loaded(file: &[u8]) -> Outcome
+    ensures { λ r. ⌜ Stores (Loaded (now (file .entry))) (r .walk) (r .status) ⌝ }
+{
+    let read = saved::load(file);
+    outcome_of(read)
 }
 
 fn marked(walk: Walk, mark: u32) -> Outcome
@@ -84,6 +99,19 @@ fn drawn(walk: Walk, bonder: u32, f: &mut u32, g: &mut u32) -> Outcome
     Outcome {
         status,
         walk: after,
+    }
+}
+
+fn written(walk: Walk, out: &mut [u8], size: &mut usize) -> u32
+    ensures { λ r. ⌜ WalkSaved walk (now (out .entry)) (now (size .entry)) (now (out .exit)) (now (size .exit)) r ⌝ }
+{
+    let answer = saved::save(walk, out);
+    match answer {
+        Saved::Refused(refusal) => refusal.number(),
+        Saved::Length(length) => {
+            *size = length;
+            0
+        }
     }
 }
 
@@ -154,6 +182,33 @@ pub extern "C" fn dw_go_back(walk: &mut Walk, mark: u32) -> u32
     let outcome = gone_back(here, mark);
     if outcome.status == 0 {
         *walk = outcome.walk;
+    }
+    outcome.status
+}
+
+// Saves a walk that the console lends; size is how many bytes the file has.
+#[no_mangle]
+pub extern "C" fn dw_save(walk: &Walk, out: &mut [u8], size: &mut usize) -> u32
+    ensures { λ r.
+        ⌜ WalkSaved (now (walk .entry)) (now (out .entry)) (now (size .entry)) (now (out .exit)) (now (size .exit)) r ⌝ }
+{
+    let here = *walk;
+    written(here, out, size)
+}
+
+// Reads a saved walk into a record that the console lends.
+#[no_mangle]
+pub extern "C" fn dw_load(file: &[u8], walk: &mut Walk) -> u32
+    ensures { λ r. ⌜ Loaded (now (file .entry)) (now (walk .entry)) (now (walk .exit)) r ⌝ }
+{
+    let outcome = loaded(file);
+    if outcome.status == 0 {
+        walk.degree = outcome.walk.degree;
+        walk.position = outcome.walk.position;
+        walk.marks = outcome.walk.marks;
+        walk.counts = outcome.walk.counts;
+        walk.f = outcome.walk.f;
+        walk.g = outcome.walk.g;
     }
     outcome.status
 }

@@ -16,8 +16,9 @@ use Rattle.listing.specs.Replies.{pairsFrom, fromReply}
 use Rattle.squares.specs.Sheets.{sheet}
 use Rattle.squares.specs.Replies.{siteReply, sheetReplyOf, sheetOf, sheetBytesOf}
 use Rattle.walk.specs.Walks.{nextPair, badRecord, lookReply, drawReply, afterDraw}
-use Rattle.trial.specs.Number.{encodeNumber, parseNumber}
-use Rattle.trial.specs.Trial.{encodeHead, encodeBody, encode, parseCoprime, parseHead, parseText, parseName, parseEnd, parseBody, parse}
+use Rattle.leb128.specs.Parser.{parseEnd}
+use Rattle.leb128.specs.Number.{encodeNumber, parseNumber}
+use Rattle.trial.specs.Trial.{encodeHead, encodeBody, encode, parseCoprime, parseHead, parseText, parseName, parseBody, parse}
 use Rattle.trial.specs.Replies.{contentCauses, read, writeReply}
 use Rattle.edges.specs.Table.{EdgesClaim}
 

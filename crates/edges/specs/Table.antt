@@ -13,7 +13,7 @@ use Rattle.listing.specs.Replies.{fromReply}
 use Rattle.squares.specs.Replies.{siteReply, sheetReply, sheetBytes}
 use Rattle.walk.specs.declared.Walk.{Walk}
 use Rattle.walk.specs.Walks.{startReply, started, lookReply, drawReply, afterDraw}
-use Rattle.trial.specs.Parser.{Parsed}
+use Rattle.leb128.specs.Parser.{Parsed}
 use Rattle.trial.specs.Trial.{Trial, trialFrom}
 use Rattle.trial.specs.Replies.{read, readReply, nameRead, levelsAfter, writeReply, fileAfter}
 

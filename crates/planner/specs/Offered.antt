@@ -6,8 +6,8 @@ use mathlib.Core.Path.{_≡_}
 use Prim.Native.Nat.{ℕ, _*_, _^_, _≤_}
 use Rattle.reply.specs.Reply.{served, unless}
 use Rattle.squares.specs.Replies.{sheet3Reply}
-use Rattle.trial.specs.Parser.{parsed}
-use Rattle.trial.specs.Number.{AllBelow}
+use Rattle.leb128.specs.Parser.{parsed}
+use Rattle.leb128.specs.Number.{AllBelow}
 use Rattle.trial.specs.Rules.{today}
 use Rattle.trial.specs.Trial.{Head, Trial, headFrom, encodeHead, headCauses, parseHead}
 use Rattle.trial.specs.Replies.{read}

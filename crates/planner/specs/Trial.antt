@@ -13,8 +13,8 @@ use Rattle.reply.specs.Reply.{Reply, served}
 use Rattle.squares.specs.Squares.{Square, ExactlyOne, Site, On}
 use Rattle.squares.specs.Sheets.{shown}
 use Rattle.squares.specs.Replies.{sheetReply, sheetBytes, sheet3Reply, sheet3Bytes}
-use Rattle.trial.specs.Parser.{parsed}
-use Rattle.trial.specs.Number.{AllBelow}
+use Rattle.leb128.specs.Parser.{parsed}
+use Rattle.leb128.specs.Number.{AllBelow}
 use Rattle.trial.specs.Trial.{Trial}
 use Rattle.trial.specs.Replies.{read, listOf}
 

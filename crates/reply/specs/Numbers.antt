@@ -7,6 +7,7 @@ use Rattle.reply.specs.declared.Refusal.the-variants.{FileEnds, NumberFo
 use Rattle.reply.specs.declared.Refusal.the-variants.{NameLength, NameByte, TrailingBytes}
 use Rattle.reply.specs.declared.Refusal.the-variants.{MarkRange, MarkEmpty, BonderRange, BonderFull}
 use Rattle.reply.specs.declared.Refusal.the-variants.{OrderRange, SymbolRange, NotGraecoLatin}
+use Rattle.reply.specs.declared.Refusal.the-variants.{SavedKind, CountRange}
 
 abbrev pub numberOf : Refusal → ℕ
 -- degree outside 1 to 31 (sheet, list of triples: 12 instead)
@@ -26,9 +27,9 @@ numberOf CodeDegree = 6
 numberOf ConstantTerm = 7
 -- common factor, of two codes or of any two of three (document 02, request e)
 numberOf CommonFactor = 8
--- file ends inside a number or name, or before a field
+-- file, of a trial or of a saved walk (document 02, request i), ends inside a number or name, or before a field
 numberOf FileEnds = 9
--- number longer than five bytes, above 4294967295, or with a needless last byte 0
+-- number longer than ten bytes, above 18446744073709551615, or with a needless last byte 0 (document 02, request i)
 numberOf NumberForm = 10
 -- version neither 1 nor 2 (document 02, request e)
 numberOf Version = 11
@@ -42,7 +43,7 @@ numberOf LevelRepeated = 14
 numberOf NameLength = 15
 -- name byte outside 32 to 126
 numberOf NameByte = 16
--- bytes after the name
+-- bytes after the name, or after the last number of a saved walk (document 02, request i)
 numberOf TrailingBytes = 17
 -- mark above 7 (document 02, request c)
 numberOf MarkRange = 18
@@ -59,3 +60,7 @@ numberOf SymbolRange = 27
 -- a sheet with a row or a column that is no permutation of the symbols, or with a pair of symbols that has not exactly one site: not two
 -- orthogonal Latin squares (document 02, request l)
 numberOf NotGraecoLatin = 28
+-- kind of a saved walk neither 1 nor 2 (document 02, request i)
+numberOf SavedKind = 22
+-- a count of a saved walk above 1000000000000000000 (document 02, request i)
+numberOf CountRange = 23

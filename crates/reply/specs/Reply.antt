@@ -1,7 +1,8 @@
 -- A reply as document 01 speaks of it, and the order in which causes for a refusal count.
 use Prim.Native.Nat.{ℕ}
 use mathlib.Core.Bool.{Bool, true, false}
-use mathlib.Core.List.{List, [], _∷_}
+use mathlib.Core.List.{List, [], _∷_, _++_}
+use lib.ListN.{length, drop}
 
 -- A call is served with values, refused with a number (document 01: turned down), or says spent (the documents' word: a walk at the end of
 -- its list; a position behind the list of triples).
@@ -26,3 +27,7 @@ abbrev pub after {ℓ} : {A : Type ℓ} → Reply → A → A → A
 after (served values) new old = new
 after (refused number) new old = old
 after spent new old = old
+
+-- Values put at the front of a slice; what stands behind them stays.
+abbrev pub over : List ℕ → List ℕ → List ℕ
+over values slice = values ++ drop (length values) slice

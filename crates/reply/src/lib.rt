@@ -32,6 +32,9 @@ pub enum Refusal {
     OrderRange,
     SymbolRange,
     NotGraecoLatin,
+    // Caused by who stores a saved walk.
+    SavedKind,
+    CountRange,
 }
 
 impl Refusal {
@@ -64,6 +67,8 @@ impl Refusal {
             Refusal::OrderRange => 26,
             Refusal::SymbolRange => 27,
             Refusal::NotGraecoLatin => 28,
+            Refusal::SavedKind => 22,
+            Refusal::CountRange => 23,
         }
     }
 }

@@ -11,12 +11,12 @@ use borrow.Author.Tests.{le-ltb}
 use Rattle.reply.specs.Reply.{served, _gives_}
 use Rattle.reply.proofs.Order.{NoneApplies, none-applies, none-refuses, clear-append, clear-left}
 use Rattle.poly.proofs.Ranges.{within}
-use Rattle.trial.specs.Parser.{parsed}
+use Rattle.leb128.specs.Parser.{parsed}
+use Rattle.leb128.specs.Number.{AllBelow}
+use Rattle.leb128.proofs.Parser.{barring-clear, barred}
 use Rattle.trial.specs.Trial.{Trial, trialFrom, encodeHead, encodeBody, encode, parse}
-use Rattle.trial.specs.Number.{AllBelow}
 use Rattle.trial.specs.Replies.{read, contentCauses, roomCauses, writeReply, fileAfter}
 use Rattle.trial.specs.Claims.{LowLevels, Roomy, passedOn, AgainClaim, BackClaim, RoomClaim, ContentClaim, LayoutClaim}
-use Rattle.trial.proofs.Parser.{barring-clear, barred}
 use Rattle.trial.proofs.Content.{Formed, sound, formed, version-is}
 use Rattle.trial.proofs.Trial.{Accepted, trial-back, trial-same}
 use Rattle.trial.proofs.Room.{encode-room}

@@ -10,10 +10,10 @@ use Rattle.poly.specs.Division.{inverse, bringDown, divide}
 use Rattle.poly.specs.Coprime.{gcd}
 use Rattle.poly.specs.Limits.{outside}
 use Rattle.poly.specs.Causes.{offDegree, codeCauses}
-use Rattle.trial.specs.Parser.{parsed, failed}
-use Rattle.trial.specs.Number.{encodeNumber, parseNumber}
+use Rattle.leb128.specs.Parser.{parsed, failed, parseEnd}
+use Rattle.leb128.specs.Number.{encodeNumber, parseNumber}
 use Rattle.trial.specs.Trial.{Trial, trialFrom, encodeHead, encodeBody, encode, parseCoprime, parseHead, parseText}
-use Rattle.trial.specs.Trial.{parseName, parseEnd, parseBody, parseUnder, parse}
+use Rattle.trial.specs.Trial.{parseName, parseBody, parseUnder, parse}
 use Rattle.trial.specs.Replies.{contentCauses, read, readReply, writeReply}
 use Rattle.trial.specs.Claims.{document01}
 
@@ -70,10 +70,15 @@ encoded2 : encode (content2 13 firstEight) ≡ withTimes (firstEight ++ (0x01 �
 unfolding encode encodeBody encodeHead encodeNumber
 encoded2 = refl
 
--- Under document 01's own rules: its file, two equal powers, powers that fall, version 2.
+-- Under document 01's own rules: its file, two equal powers, powers that fall, version 2, five unfinished bytes.
 decoded-before : map (parseUnder document01)
-    (withName (0x01 ∷ 0x41 ∷ []) ∷ (headBytes ++ (0x64 ∷ 0x64 ∷ [])) ∷ (headBytes ++ (0x02 ∷ 0x01 ∷ [])) ∷ (0x02 ∷ []) ∷ [])
-    ≡ parsed (content 2 7 5 rising (0x41 ∷ [])) [] ∷ failed 14 ∷ failed 14 ∷ failed 11 ∷ []
+    (withName (0x01 ∷ 0x41 ∷ [])
+    ∷ (headBytes ++ (0x64 ∷ 0x64 ∷ []))
+    ∷ (headBytes ++ (0x02 ∷ 0x01 ∷ []))
+    ∷ (0x02 ∷ [])
+    ∷ replicate 5 0x80
+    ∷ [])
+    ≡ parsed (content 2 7 5 rising (0x41 ∷ [])) [] ∷ failed 14 ∷ failed 14 ∷ failed 11 ∷ failed 10 ∷ []
 unfolding parseHead parseCoprime parseBody parseName parseText parseEnd parseNumber
     outside offDegree codeCauses gcd divide bringDown inverse add scale degree
 decoded-before = refl
@@ -86,6 +91,10 @@ record Reading : Type 0 where
 
 abbrev reading : List ℕ → Reply → Reading
 reading bytes answer = record { file = bytes; room = 64; reply = answer }
+
+-- The lowest number above document 01's ceiling.
+abbrev above32 : List ℕ
+above32 = 0x80 ∷ 0x80 ∷ 0x80 ∷ 0x80 ∷ 0x10 ∷ []
 
 abbrev readings : List Reading
 readings =
@@ -103,10 +112,18 @@ readings =
     ∷ reading [] (refused 9)
     ∷ reading (withName (0x01 ∷ [])) (refused 9)
     ∷ reading (replicate 4 0x80) (refused 9)
-    ∷ reading (replicate 5 0x80) (refused 10)
-    ∷ reading (replicate 4 0x80 ++ (0x10 ∷ [])) (refused 10)
+    ∷ reading (replicate 9 0x80) (refused 9)
+    ∷ reading (replicate 10 0x80) (refused 10)
+    ∷ reading (replicate 9 0x80 ++ (0x02 ∷ [])) (refused 10)
+    ∷ reading (replicate 9 0x80 ++ (0x00 ∷ [])) (refused 10)
     ∷ reading (0x82 ∷ 0x00 ∷ []) (refused 10)
-    ∷ reading (replicate 4 0xFF ++ (0x0F ∷ [])) (refused 11)
+    ∷ reading (replicate 9 0xFF ++ (0x01 ∷ [])) (refused 11)
+    ∷ reading above32 (refused 11)
+    ∷ reading (0x01 ∷ above32) (refused 12)
+    ∷ reading (0x01 ∷ 0x02 ∷ above32) (refused 6)
+    ∷ reading (0x01 ∷ 0x02 ∷ 0x07 ∷ above32) (refused 6)
+    ∷ reading (headBytes ++ above32) (refused 13)
+    ∷ reading (withName above32) (refused 15)
     ∷ reading (0x00 ∷ []) (refused 11)
     ∷ reading (0x03 ∷ []) (refused 11)
     ∷ reading (0x02 ∷ []) (refused 9)

@@ -7,25 +7,24 @@ use mathlib.Core.List.{List, [], _∷_, _++_, reverseAux, append-assoc}
 use native.Mathlib.Omega.{arith}
 use lib.ListN.{length}
 use borrow.Author.Tests.{le-ltb, ltb-false}
-use Rattle.levels.specs.Levels.{anyBarred}
+use Rattle.levels.specs.Levels.{anyBarred, repeated}
 use Rattle.reply.proofs.Order.{NoneApplies}
 use Rattle.poly.proofs.Ranges.{neither}
-use Rattle.trial.specs.Parser.{parsed}
-use Rattle.trial.specs.Number.{AllBelow, encodeNumber, encodeNumbers}
-use Rattle.trial.specs.Rules.{Rules}
+use Rattle.leb128.specs.Parser.{parsed}
+use Rattle.leb128.specs.Number.{AllBelow, encodeNumber, encodeNumbers}
+use Rattle.leb128.proofs.Field.{field-back, with-field}
+use Rattle.trial.specs.Rules.{Rules, today}
 use Rattle.trial.specs.Levels.{levelCauses, parseLevels}
-use Rattle.trial.proofs.Field.{field-back, with-field}
 
-pub levels-back : (rules : Rules) (levels before rest : List ℕ) → AllBelow 65536 levels
-    → anyBarred (rules .barred) before levels ≡ false
-    → parseLevels rules (length levels) before (encodeNumbers levels ++ rest) ≡ parsed (reverseAux before levels) rest
-levels-back rules [] before rest below allowed = refl
-levels-back rules (level ∷ levels) before rest below allowed =
-    let o = neither (rules .barred before level) _ allowed in
+pub levels-back : (levels before rest : List ℕ) → AllBelow 65536 levels → anyBarred repeated before levels ≡ false
+    → parseLevels today (length levels) before (encodeNumbers levels ++ rest) ≡ parsed (reverseAux before levels) rest
+levels-back [] before rest below allowed = refl
+levels-back (level ∷ levels) before rest below allowed =
+    let o = neither (repeated before level) _ allowed in
     let b = below 0 in
-    let clear : NoneApplies (levelCauses rules before level) = (le-ltb 65535 level (omega arith), (o .0, tt)) in
-    rw (append-assoc, field-back (levelCauses rules before) level (encodeNumbers levels ++ rest) (omega arith) clear)
-    (levels-back rules levels (level ∷ before) rest (λ i. below (suc i)) (o .1))
+    let clear : NoneApplies (levelCauses today before level) = (le-ltb 65535 level (omega arith), (o .0, tt)) in
+    rw (append-assoc, field-back (levelCauses today before) level (encodeNumbers levels ++ rest) (omega arith) clear)
+    (levels-back levels (level ∷ before) rest (λ i. below (suc i)) (o .1))
 
 -- These levels were read behind those before.
 pub record LevelsRead (rules : Rules) (count : ℕ) (before bytes levels rest : List ℕ) : Type 0 where
@@ -41,7 +40,7 @@ pub levels-same : (rules : Rules) (count : ℕ) (before bytes : List ℕ) {level
 levels-same rules zero before bytes {levels} {rest} below e =
     record { fresh = []; whole = cc; size = refl; allowed = refl; low = λ i. omega arith; same = cc }
 levels-same rules (suc count) before bytes {levels} {rest} below e =
-    with-field (levelCauses rules before) _ bytes below e λ level bytes′ clear same below′ e′.
+    with-field (rules .numbers) (levelCauses rules before) _ bytes below e λ level bytes′ clear same below′ e′.
     behind level bytes′ clear same (levels-same rules count (level ∷ before) bytes′ below′ e′)
   where
     behind : (level : ℕ) (bytes′ : List ℕ) → NoneApplies (levelCauses rules before level) → encodeNumber level ++ bytes′ ≡ bytes

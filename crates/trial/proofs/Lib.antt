@@ -1,9 +1,6 @@
 pub mod Examples
-pub mod Parser
 pub mod Flags
 pub mod Order
-pub mod Number
-pub mod Field
 pub mod Levels
 pub mod Content
 pub mod Trial

@@ -10,21 +10,17 @@ use lib.ListN.{length, length-append}
 use Rattle.reply.proofs.Order.{NoneApplies, clear-left, clear-right}
 use Rattle.poly.specs.Causes.{codeCauses, ownCauses, commonFactors}
 use Rattle.poly.proofs.Ranges.{within}
-use Rattle.trial.specs.Number.{AllBelow, encodeNumber, encodeNumbers}
+use Rattle.leb128.specs.Number.{AllBelow, encodeNumbers}
+use Rattle.leb128.proofs.Number.{encode-small, numbers-most}
 use Rattle.trial.specs.Trial.{Trial, encodeHead, encodeLists, encodeBody, encode}
 use Rattle.trial.specs.Replies.{contentCauses}
 use Rattle.trial.specs.Claims.{LowLevels, fileRoom}
-use Rattle.trial.proofs.Number.{encode-small, encode-most}
 use Rattle.trial.proofs.Order.{order-few}
 use Rattle.trial.proofs.Content.{FullLists, Formed, sound, version-is}
 use Rattle.trial.proofs.Trial.{code-small}
 
 levels-room : (levels : List ℕ) → AllBelow 65536 levels → length (encodeNumbers levels) ≤ 3 * length levels
-levels-room [] below = omega arith
-levels-room (level ∷ levels) below =
-    let one : length (encodeNumber level) ≤ 3 = encode-most 2 level (omega (arith, below 0)) in
-    let others = levels-room levels (λ i. below (suc i)) in
-    rw (length-append (encodeNumber level) (encodeNumbers levels)) (omega arith)
+levels-room levels below = numbers-most 2 levels (λ i. let l = below i in omega arith)
 
 lists-room : (order : ℕ) (lists : List (List ℕ)) → order ≤ 64 → LowLevels lists → FullLists order lists
     → length (encodeLists lists) ≤ 192 * length lists

@@ -15,17 +15,17 @@ use Rattle.reply.specs.Reply.{_gives_}
 use Rattle.reply.proofs.Order.{NoneApplies, clear-append, clear-left, clear-right}
 use Rattle.poly.specs.Causes.{codeCauses, ownCauses, commonFactors}
 use Rattle.poly.proofs.Ranges.{within, passed-code}
-use Rattle.trial.specs.Parser.{parsed, pure, _>>=_, checked}
-use Rattle.trial.specs.Number.{AllBelow, encodeNumber, encodeNumbers}
+use Rattle.leb128.specs.Parser.{parsed, pure, _>>=_, checked, parseEnd}
+use Rattle.leb128.specs.Number.{AllBelow, encodeNumber, encodeNumbers, limits64, fields}
+use Rattle.leb128.proofs.Parser.{barred, with-parsed, checked-parsed, parsed-checked}
+use Rattle.leb128.proofs.Field.{field-back, below-rest, with-field, NoneOf, fields-back, fields-same}
 use Rattle.trial.specs.Rules.{today}
 use Rattle.trial.specs.Levels.{parseLevels}
 use Rattle.trial.specs.Trial.{Head, Trial, encodeHead, encodeLists, encodeBody, encode, versionCauses, degreeCauses, headCauses}
-use Rattle.trial.specs.Trial.{sizeCauses, textCauses, anyUnprintable, parseCodes, parseCoprime, parseHead, parseText, parseName}
-use Rattle.trial.specs.Trial.{parseEnd, parseLists, parseBody, parse}
+use Rattle.trial.specs.Trial.{sizeCauses, textCauses, anyUnprintable, parseCoprime, parseHead, parseText, parseName}
+use Rattle.trial.specs.Trial.{parseLists, parseBody, parse}
 use Rattle.trial.specs.Replies.{listCauses, nameCauses, bodyCauses, contentCauses}
 use Rattle.trial.specs.Claims.{LowLevels}
-use Rattle.trial.proofs.Parser.{barred, with-parsed, checked-parsed, parsed-checked}
-use Rattle.trial.proofs.Field.{field-back, below-rest, with-field}
 use Rattle.trial.proofs.Levels.{levels-back, levels-same}
 use Rattle.trial.proofs.Content.{FullList, FullLists, lists-clear, Formed, sound}
 
@@ -33,17 +33,28 @@ use Rattle.trial.proofs.Content.{FullList, FullLists, lists-clear, Form
 pub code-small : (n code : ℕ) → n ≤ 6 → NoneApplies (codeCauses n code) → code < 128
 code-small n code h clear = omega (arith, passed-code n code clear .0 .high, pow-mono {i = suc n} {j = 7} (omega arith))
 
+-- What several codes are refused for, code by code and all in a row.
+each-clear : (n : ℕ) (codes : List ℕ) → NoneApplies (ownCauses n codes) → NoneOf (codeCauses n) codes
+each-clear n [] clear = tt
+each-clear n (code ∷ codes) clear = (
+  clear-left (codeCauses n code) (ownCauses n codes) clear,
+  each-clear n codes (clear-right (codeCauses n code) (ownCauses n codes) clear),
+)
+
+own-clear : (n : ℕ) (codes : List ℕ) → NoneOf (codeCauses n) codes → NoneApplies (ownCauses n codes)
+own-clear n [] clear = tt
+own-clear n (code ∷ codes) clear = clear-append (codeCauses n code) (ownCauses n codes) (clear .0) (own-clear n codes (clear .1))
+
+codes-small : (n : ℕ) (codes : List ℕ) → n ≤ 6 → NoneOf (codeCauses n) codes → AllBelow 128 codes
+codes-small n [] low clear = λ i. omega arith
+codes-small n (code ∷ codes) low clear =
+    elim [ zero ↦ code-small n code low (clear .0) | suc i ↦ codes-small n codes low (clear .1) i ]
+
 codes-back : (n : ℕ) (codes rest : List ℕ) → n ≤ 6 → NoneApplies (ownCauses n codes)
-    → parseCodes n (length codes) (encodeNumbers codes ++ rest) ≡ parsed codes rest
-codes-back n [] rest low clear = refl
-codes-back n (code ∷ codes) rest low clear =
-    let this = clear-left (codeCauses n code) (ownCauses n codes) clear in
-    let small = code-small n code low this in
-    rw (
-      append-assoc,
-      field-back (codeCauses n) code (encodeNumbers codes ++ rest) (omega arith) this,
-      codes-back n codes rest low (clear-right (codeCauses n code) (ownCauses n codes) clear),
-    )
+    → fields limits64 (codeCauses n) (length codes) (encodeNumbers codes ++ rest) ≡ parsed codes rest
+codes-back n codes rest low clear =
+    let each = each-clear n codes clear in
+    fields-back (codeCauses n) codes rest (λ i. omega (arith, codes-small n codes low each i)) each
 
 pub head-back : (head : Head) (rest : List ℕ) → length (head .codes) ≡ suc (head .version) → NoneApplies (headCauses today head)
     → parseHead today (encodeHead head ++ rest) ≡ parsed head rest
@@ -61,33 +72,8 @@ head-back head rest many clear =
     (rw (
       field-back (versionCauses today) v (encodeNumber n ++ (encodeNumbers codes ++ rest)) (omega arith) (clear .0, tt),
       field-back degreeCauses n (encodeNumbers codes ++ rest) (omega arith) (clear .1 .0, tt),
-      parsed-checked (parseCodes n (suc v)) commonFactors (encodeNumbers codes ++ rest) back coprime,
+      parsed-checked (fields limits64 (codeCauses n) (suc v)) commonFactors (encodeNumbers codes ++ rest) back coprime,
     ))
-
--- So many codes were read.
-record CodesRead (n count : ℕ) (bytes codes rest : List ℕ) : Type 0 where
-  many : length codes ≡ count
-  clear : NoneApplies (ownCauses n codes)
-  same : encodeNumbers codes ++ rest ≡ bytes
-
-codes-same : (n count : ℕ) (bytes : List ℕ) {codes rest : List ℕ} → AllBelow 256 bytes → parseCodes n count bytes ≡ parsed codes rest
-    → CodesRead n count bytes codes rest
-codes-same n zero bytes {codes} {rest} below e =
-    let none : codes ≡ [] = cc in
-    let all : rest ≡ bytes = cc in
-    rw (none, all) (record { many = refl; clear = tt; same = refl })
-codes-same n (suc count) bytes {codes} {rest} below e =
-    with-field (codeCauses n) _ bytes below e λ code r₁ c s b e₁.
-    with-parsed (parseCodes n count) _ r₁ e₁ λ others r₂ o e₂.
-    let t = codes-same n count r₁ b o in
-    let codes-are : codes ≡ code ∷ others = cc in
-    let rest-is : rest ≡ r₂ = cc in
-    rw (codes-are, rest-is)
-    (record {
-      many = ap suc (t .many);
-      clear = clear-append (codeCauses n code) (ownCauses n others) c (t .clear);
-      same = rw (append-assoc, t .same) s;
-    })
 
 record HeadRead (bytes : List ℕ) (head : Head) (rest : List ℕ) : Type 0 where
   many : length (head .codes) ≡ suc (head .version)
@@ -98,17 +84,17 @@ head-same : (bytes : List ℕ) {head : Head} {rest : List ℕ} → AllBelow 256 
     → HeadRead bytes head rest
 unfolding encodeHead parseHead parseCoprime
 head-same bytes {head} {rest} below e =
-    with-field (versionCauses today) _ bytes below e λ v r₁ cv sv b₁ e₁.
-    with-field degreeCauses _ r₁ b₁ e₁ λ n r₂ cn sn b₂ e₂.
-    with-parsed (checked (parseCodes n (suc v)) commonFactors) _ r₂ e₂ λ codes r₃ ec e₃.
-    let c = checked-parsed (parseCodes n (suc v)) commonFactors r₂ ec in
-    let t = codes-same n (suc v) r₂ b₂ (c .1) in
+    with-field limits64 (versionCauses today) _ bytes below e λ v r₁ cv sv b₁ e₁.
+    with-field limits64 degreeCauses _ r₁ b₁ e₁ λ n r₂ cn sn b₂ e₂.
+    with-parsed (checked (fields limits64 (codeCauses n) (suc v)) commonFactors) _ r₂ e₂ λ codes r₃ ec e₃.
+    let c = checked-parsed (fields limits64 (codeCauses n) (suc v)) commonFactors r₂ ec in
+    let t = fields-same limits64 (codeCauses n) (suc v) r₂ b₂ (c .1) in
     let head-is : head ≡ record { version = v; degree = n; codes = codes } = cc in
     let rest-is : rest ≡ r₃ = cc in
     rw (head-is, rest-is)
     (record {
       many = t .many;
-      clear = (cv .0, (cn .0, clear-append (ownCauses n codes) (commonFactors codes) (t .clear) (c .0)));
+      clear = (cv .0, (cn .0, clear-append (ownCauses n codes) (commonFactors codes) (own-clear n codes (t .clear)) (c .0)));
       same = simp append-assoc (rw (t .same, sn) sv);
     })
 
@@ -116,7 +102,8 @@ text-back : (name : List ℕ) → anyUnprintable name ≡ false → parseText (l
 unfolding parseText
 text-back name printable = rw (le-ltb (length name) (length name) (omega arith), take-length, drop-length, printable)
 
-last-back : (name : List ℕ) → NoneApplies (nameCauses name) → (parseName >>= parseEnd) (encodeNumber (length name) ++ name) ≡ parsed name []
+last-back : (name : List ℕ) → NoneApplies (nameCauses name)
+    → (parseName today >>= parseEnd) (encodeNumber (length name) ++ name) ≡ parsed name []
 unfolding parseName parseEnd
 last-back name clear =
     let short : length name ≤ 40 = ltb-false 40 (length name) (clear .0) in
@@ -130,12 +117,12 @@ record LastRead (bytes name : List ℕ) : Type 0 where
   clear : NoneApplies (nameCauses name)
   same : encodeNumber (length name) ++ name ≡ bytes
 
-last-same : (bytes : List ℕ) {name rest : List ℕ} → AllBelow 256 bytes → (parseName >>= parseEnd) bytes ≡ parsed name rest
+last-same : (bytes : List ℕ) {name rest : List ℕ} → AllBelow 256 bytes → (parseName today >>= parseEnd) bytes ≡ parsed name rest
     → LastRead bytes name
 unfolding parseName parseText parseEnd
 last-same bytes {name} {rest} below e =
-    with-parsed parseName parseEnd bytes e λ name′ end e₁ e₂.
-    with-field sizeCauses _ bytes below e₁ λ size behind c s b e₃.
+    with-parsed (parseName today) parseEnd bytes e λ name′ end e₁ e₂.
+    with-field limits64 sizeCauses _ bytes below e₁ λ size behind c s b e₃.
     let t = barred (textCauses size behind) _ behind e₃ in
     let enough : size ≤ length behind = ltb-false (length behind) size (t .0 .0) in
     let whole : length (take size behind) ≡ size = length-take-le size behind enough in
@@ -152,7 +139,7 @@ lists-back : (order : ℕ) (lists : List (List ℕ)) (rest : List ℕ) → LowLe
 lists-back order [] rest low whole = refl
 lists-back order (levels ∷ lists) rest low whole =
     let this = whole 0 (omega arith) in
-    let first = rw (this .long) at (levels-back today levels [] (encodeLists lists ++ rest) (low 0) (this .differ)) in
+    let first = rw (this .long) at (levels-back levels [] (encodeLists lists ++ rest) (low 0) (this .differ)) in
     rw (append-assoc, first, lists-back order lists rest (λ k. low (suc k)) (λ k h. whole (suc k) (omega arith)))
 
 -- What the writer accepts is read back.
@@ -219,7 +206,7 @@ trial-same file {t} {rest} below e =
     with-parsed (parseLists today (2 ^ head .degree) (suc (head .version))) _ r₁ e₁ λ lists r₂ l e₂.
     let ls = lists-same (2 ^ head .degree) (suc (head .version)) r₁ b₁ l in
     let b₂ = below-rest (encodeLists lists) r₂ r₁ (ls .same) b₁ in
-    with-parsed (parseName >>= parseEnd) _ r₂ e₂ λ name r₃ l e₃.
+    with-parsed (parseName today >>= parseEnd) _ r₂ e₂ λ name r₃ l e₃.
     let ns = last-same r₂ b₂ l in
     let content : Trial = record { head = head; lists = lists; name = name } in
     let t-is : t ≡ content = cc in

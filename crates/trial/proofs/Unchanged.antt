@@ -16,16 +16,16 @@ use Rattle.reply.specs.Reply.{Reply, served, Cause, _gives_, unless}
 use Rattle.poly.specs.Coprime.{gcd}
 use Rattle.poly.specs.Causes.{codeCauses, commonFactor}
 use Rattle.poly.proofs.Ranges.{inside, outside-below, outside-above}
+use Rattle.leb128.specs.Parser.{Parser, parsed, failed, pure, resume, _>>=_, barring}
+use Rattle.leb128.specs.Number.{limits64, number, field}
+use Rattle.leb128.proofs.Parser.{either, checked-twice}
 use Rattle.trial.specs.Rules.{today}
-use Rattle.trial.specs.Parser.{Parser, parsed, failed, pure, resume, _>>=_, barring}
-use Rattle.trial.specs.Number.{number, field}
 use Rattle.trial.specs.Levels.{levelCauses, parseLevels}
 use Rattle.trial.specs.Trial.{Head, Trial, trialFrom, encodeHead, encodeBody, encode, degreeCauses, parseCoprime, parseHead}
-use Rattle.trial.specs.Trial.{parseBody, parse}
+use Rattle.trial.specs.Trial.{parseName, parseBody, parse}
 use Rattle.trial.specs.Replies.{read, nameCauses, contentCauses, roomCauses, writeReply}
 use Rattle.trial.specs.Before.{before, secondCauses, bodyBefore, codesBefore, parseBefore, readBefore, encodeBefore}
 use Rattle.trial.specs.Claims.{UnchangedClaim, BeforeClaim}
-use Rattle.trial.proofs.Parser.{either, checked-twice}
 
 holds-or-not : {C : Type 0} (b : Bool) → (b ≡ true → C) → (b ≡ false → C) → C
 holds-or-not true yes-case no-case = yes-case refl
@@ -34,16 +34,16 @@ holds-or-not false yes-case no-case = no-case refl
 abbrev headBefore : ℕ → ℕ → ℕ → Head
 headBefore n f g = record { version = 1; degree = n; codes = f ∷ g ∷ [] }
 
--- The rules for levels were the same.
+-- The rules for levels were the same, and here numbers are today's.
 levels-before : (count : ℕ) (earlier bytes : List ℕ) → parseLevels today count earlier bytes ≡ parseLevels before count earlier bytes
 levels-before zero earlier bytes = refl
 levels-before (suc count) earlier bytes =
-    either (field (levelCauses today earlier) bytes)
+    either (field limits64 (levelCauses today earlier) bytes)
     (λ level rest e. rw e (levels-before count (level ∷ earlier) rest))
     (λ k e. rw e)
 
 body-before : (n f g : ℕ) (bytes : List ℕ) → parseBody today (headBefore n f g) bytes ≡ bodyBefore n f g bytes
-unfolding parseBody
+unfolding parseBody parseName
 body-before n f g bytes =
     either (parseLevels today (2 ^ n) [] bytes)
     (λ powers r₁ e₁.
@@ -53,19 +53,19 @@ body-before n f g bytes =
     (λ k e₂. let b₂ = sym (levels-before (2 ^ n) [] r₁) ∙ e₂ in rw (e₁, b₁, e₂, b₂)))
     (λ k e₁. let b₁ = sym (levels-before (2 ^ n) [] bytes) ∙ e₁ in rw (e₁, b₁))
 
-codes-before : (n : ℕ) (bytes : List ℕ) → (parseCoprime 1 n >>= parseBody today) bytes ≡ codesBefore n bytes
+codes-before : (n : ℕ) (bytes : List ℕ) → (parseCoprime today 1 n >>= parseBody today) bytes ≡ codesBefore n bytes
 unfolding parseCoprime
 codes-before n bytes =
-    either (field (codeCauses n) bytes)
+    either (field limits64 (codeCauses n) bytes)
     (λ f r₁ e₁.
     let twice = checked-twice number (codeCauses n) (λ g. commonFactor f g ∷ []) r₁ in
-    either (field (codeCauses n) r₁)
+    either (field limits64 (codeCauses n) r₁)
     (λ g r₂ e₂.
-    let pair : field (secondCauses n f) r₁ ≡ barring (commonFactor f g ∷ []) (pure g) r₂ = sym twice ∙ rw e₂ in
+    let pair : field limits64 (secondCauses n f) r₁ ≡ barring (commonFactor f g ∷ []) (pure g) r₂ = sym twice ∙ rw e₂ in
     holds-or-not (not (eqb (gcd 2 f g) 1))
     (λ common. rw (e₁, e₂, pair, common))
     (λ coprime. rw (e₁, e₂, pair, coprime) (body-before n f g r₂)))
-    (λ k e₂. let pair : field (secondCauses n f) r₁ ≡ failed k = sym twice ∙ rw e₂ in rw (e₁, e₂, pair)))
+    (λ k e₂. let pair : field limits64 (secondCauses n f) r₁ ≡ failed k = sym twice ∙ rw e₂ in rw (e₁, e₂, pair)))
     (λ k e₁. rw e₁)
 
 parser-before : (file : List ℕ) → ((rest : List ℕ) → number file ≢ parsed 2 rest) → parse file ≡ parseBefore file
@@ -85,8 +85,9 @@ parser-before file other =
     (λ k e. rw e)
   where
     behind : (rest : List ℕ)
-        → resume (resume (field degreeCauses rest) (parseCoprime 1)) (parseBody today) ≡ resume (field degreeCauses rest) codesBefore
-    behind rest = either (field degreeCauses rest) (λ n r e. rw e (codes-before n r)) (λ k e. rw e)
+        → resume (resume (field limits64 degreeCauses rest) (parseCoprime today 1)) (parseBody today)
+        ≡ resume (field limits64 degreeCauses rest) codesBefore
+    behind rest = either (field limits64 degreeCauses rest) (λ n r e. rw e (codes-before n r)) (λ k e. rw e)
 
 -- One number for two causes, and a third that does not apply.
 one-bar : (a b : Bool) (k : ℕ) (now then : Parser Trial) (bytes : List ℕ) → now bytes ≡ then bytes

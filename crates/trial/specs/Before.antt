@@ -1,5 +1,5 @@
--- Trial files as they were before document 02's request e: version 1 alone, with two codes and two lists, field by field. No contract
--- speaks of it; what is shown is that version 1 is still what it was.
+-- Trial files as they were before document 02's request e, but with today's numbers: version 1 alone, with two codes and two lists, field
+-- by field. No contract speaks of it; what is shown is that version 1 is still what it was.
 use Prim.Native.Nat.{ℕ, _^_}
 use mathlib.Core.Bool.{not, _||_}
 use mathlib.Core.List.{List, [], _∷_, _++_}
@@ -8,16 +8,16 @@ use lib.ListN.{length}
 use Rattle.levels.specs.Levels.{repeated, repeats}
 use Rattle.reply.specs.Reply.{Reply, served, Cause, _gives_, unless}
 use Rattle.poly.specs.Causes.{codeCauses, commonFactor}
+use Rattle.leb128.specs.Parser.{Parser, pure, _>>=_, barring, parseEnd}
+use Rattle.leb128.specs.Number.{encodeNumber, encodeNumbers, limits64, field}
 use Rattle.trial.specs.Rules.{Rules}
-use Rattle.trial.specs.Parser.{Parser, pure, _>>=_, barring}
-use Rattle.trial.specs.Number.{encodeNumber, encodeNumbers, field}
 use Rattle.trial.specs.Levels.{parseLevels}
-use Rattle.trial.specs.Trial.{Trial, degreeCauses, parseName, parseEnd}
+use Rattle.trial.specs.Trial.{Trial, degreeCauses, parseName}
 use Rattle.trial.specs.Replies.{nameCauses}
 
--- The rules then.
+-- The rules then, but with today's numbers: what request i changed for both versions is not the question here.
 abbrev pub before : Rules
-before = record { highest = 1; barred = repeated }
+before = record { highest = 1; barred = repeated; numbers = limits64 }
 
 abbrev pub contentBefore : ℕ → ℕ → ℕ → List ℕ → List ℕ → List ℕ → Trial
 contentBefore n f g powers forces name =
@@ -35,14 +35,14 @@ abbrev pub bodyBefore : ℕ → ℕ → ℕ → Parser Trial
 bodyBefore n f g =
     parseLevels before (2 ^ n) [] >>= λ powers.
     parseLevels before (2 ^ n) [] >>= λ forces.
-    parseName >>= parseEnd >>= λ name.
+    parseName before >>= parseEnd >>= λ name.
     pure (contentBefore n f g powers forces name)
 
 abbrev pub codesBefore : ℕ → Parser Trial
-codesBefore n = field (codeCauses n) >>= λ f. field (secondCauses n f) >>= λ g. bodyBefore n f g
+codesBefore n = field (before .numbers) (codeCauses n) >>= λ f. field (before .numbers) (secondCauses n f) >>= λ g. bodyBefore n f g
 
 abbrev pub parseBefore : Parser Trial
-parseBefore = field versionCausesBefore >>= λ _. field degreeCauses >>= codesBefore
+parseBefore = field (before .numbers) versionCausesBefore >>= λ _. field (before .numbers) degreeCauses >>= codesBefore
 
 -- The reader's decision, with room for two lists of levels.
 abbrev pub readBefore : ℕ → ℕ → Parser Trial

@@ -1,18 +1,18 @@
 -- What is shown of reading and writing trial files. Bytes are below 256 and levels below 65536, as those of slices are.
 use mathlib.Core.Bool.{cond}
-use mathlib.Core.Logic.{_⊎_, _≢_}
+use mathlib.Core.Logic.{_⊎_, _↔_, _≢_}
 use mathlib.Core.Path.{_≡_}
 use Prim.Native.Nat.{ℕ, suc, _-_, _^_, _≤_}
 use mathlib.Core.List.{List, [], _∷_, _++_}
 use lib.Dec.{eqb}
 use lib.ListN.{length, getD, take}
-use Rattle.reply.specs.Reply.{served}
-use Rattle.levels.specs.Levels.{notAbove}
+use Rattle.reply.specs.Reply.{served, over}
+use Rattle.levels.specs.Levels.{repeated, notAbove}
+use Rattle.leb128.specs.Parser.{parsed}
+use Rattle.leb128.specs.Number.{AllBelow, encodeNumber, encodeNumbers, limits32, number}
 use Rattle.trial.specs.Rules.{Rules}
-use Rattle.trial.specs.Parser.{parsed}
-use Rattle.trial.specs.Number.{AllBelow, encodeNumber, encodeNumbers, number}
 use Rattle.trial.specs.Trial.{Trial, trialFrom, encode, parseUnder, parse}
-use Rattle.trial.specs.Replies.{read, contentReply, readReply, nameRead, over, listOf, levelsAfter, writeReply, fileAfter}
+use Rattle.trial.specs.Replies.{read, contentReply, readReply, nameRead, listOf, levelsAfter, writeReply, fileAfter}
 use Rattle.trial.specs.Before.{contentBefore, readBefore, encodeBefore, writeReplyBefore}
 
 -- All levels of all lists are below 65536.
@@ -68,15 +68,25 @@ pub record RoomClaim : Type 0 where
   pub accepted : (rooms file : List ℕ) (t : Trial) (rest : List ℕ) → AllBelow 256 file
       → read rooms file ≡ parsed t rest → length file ≤ fileRoom (t .head .version)
 
--- Document 01's own rules: version 1 alone; a level not above the one before it may not follow.
+-- Document 01's own rules: version 1 alone; a level not above the one before it may not follow; numbers of 32 bits.
 abbrev pub document01 : Rules
-document01 = record { highest = 1; barred = notAbove }
+document01 = record { highest = 1; barred = notAbove; numbers = limits32 }
 
 -- Files accepted before are still accepted: what document 01's rules let pass, the reader accepts with the same content.
 abbrev pub StillClaim : Type 0
 StillClaim =
     (file : List ℕ) (t : Trial) (rest : List ℕ) → parseUnder document01 file ≡ parsed t rest
     → (rooms : List ℕ) → Roomy rooms → read rooms file ≡ parsed t rest
+
+-- The rules before request i: numbers of 32 bits.
+abbrev pub shorterNumbers : Rules
+shorterNumbers = record { highest = 2; barred = repeated; numbers = limits32 }
+
+-- A file is accepted now exactly where it was before request i, with the same content. The slices lent for levels were and are judged
+-- before the file.
+abbrev pub SameFilesClaim : Type 0
+SameFilesClaim =
+    (file : List ℕ) (t : Trial) (rest : List ℕ) → (parseUnder shorterNumbers file ≡ parsed t rest) ↔ (parse file ≡ parsed t rest)
 
 -- What is shown of a content of version 1 that the reader gives: the values that it gave before request e, and the version behind them;
 -- the two lists, each put where it was put before; and a third slice is left as it was.
@@ -88,8 +98,8 @@ pub record GivenBefore (n f g : ℕ) (powers forces name : List ℕ) : Type 0 wh
   pub second : (rest slice : List ℕ) → levelsAfter 1 (parsed (contentBefore n f g powers forces name) rest) slice ≡ over forces slice
   pub third : (rest slice : List ℕ) → levelsAfter 2 (parsed (contentBefore n f g powers forces name) rest) slice ≡ slice
 
--- A file whose version is not 2 is read as before request e, with a third slice that is long enough: refused by the same number, or
--- accepted with the same content.
+-- A file whose version is not 2 is read as before request e, but for the numbers of request i, with a third slice that is long enough:
+-- refused by the same number, or accepted with the same content.
 pub record UnchangedClaim : Type 0 where
   pub decision : (file : List ℕ) → ((rest : List ℕ) → number file ≢ parsed 2 rest)
       → (powersRoom forcesRoom timesRoom : ℕ) → 64 ≤ timesRoom

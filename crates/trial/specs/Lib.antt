@@ -1,6 +1,4 @@
 pub mod Rules
-pub mod Parser
-pub mod Number
 pub mod Levels
 pub mod Trial
 pub mod Replies

@@ -5,9 +5,9 @@ use mathlib.Core.List.{List, [], _∷_, _++_, map}
 use lib.Dec.{ltb, eqb}
 use lib.ListN.{length, getD, take, drop}
 use Rattle.levels.specs.Levels.{repeats}
-use Rattle.reply.specs.Reply.{Reply, served, refused, Cause, _gives_, unless, after}
+use Rattle.reply.specs.Reply.{Reply, served, refused, Cause, _gives_, unless, after, over}
+use Rattle.leb128.specs.Parser.{Parsed, parsed, failed, Parser, barring}
 use Rattle.trial.specs.Rules.{today}
-use Rattle.trial.specs.Parser.{Parsed, parsed, failed, Parser, barring}
 use Rattle.trial.specs.Trial.{Trial, encode, headCauses, sizeCauses, anyUnprintable, parse}
 
 -- The reader's decision, with so much room in each of the slices lent for the levels. 4 comes first: one of them is shorter than 64.
@@ -28,10 +28,6 @@ readReply size (failed number) = refused number
 abbrev pub nameRead : Parsed Trial → List ℕ
 nameRead (parsed t rest) = t .name
 nameRead (failed number) = []
-
--- Values put at the front of a slice; what stands behind them stays.
-abbrev pub over : List ℕ → List ℕ → List ℕ
-over values slice = values ++ drop (length values) slice
 
 -- List k of a content: 0 the powers, 1 the forces, 2 the times, of which version 1 has none.
 abbrev pub listOf : ℕ → Trial → List ℕ

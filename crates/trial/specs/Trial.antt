@@ -8,9 +8,9 @@ use lib.ListN.{length, take, drop}
 use Rattle.reply.specs.Reply.{Cause, _gives_}
 use Rattle.poly.specs.Limits.{outside}
 use Rattle.poly.specs.Causes.{sheetDegreeCause, codeCauses, commonFactors, coprimeCauses}
+use Rattle.leb128.specs.Parser.{parsed, Parser, pure, _>>=_, barring, checked, parseEnd}
+use Rattle.leb128.specs.Number.{encodeNumber, encodeNumbers, field, fields}
 use Rattle.trial.specs.Rules.{Rules, today}
-use Rattle.trial.specs.Parser.{parsed, Parser, pure, _>>=_, barring, checked}
-use Rattle.trial.specs.Number.{encodeNumber, encodeNumbers, field}
 use Rattle.trial.specs.Levels.{parseLevels}
 
 -- The fields in front of the levels. The codes are f, g and, in version 2, h.
@@ -58,19 +58,14 @@ abbrev pub headCauses : Rules → Head → List Cause
 headCauses rules head =
     versionCauses rules (head .version) ++ degreeCauses (head .degree) ++ coprimeCauses (head .degree) (head .codes)
 
--- So many codes of degree n.
-abbrev pub parseCodes : ℕ → ℕ → Parser (List ℕ)
-parseCodes n zero = pure []
-parseCodes n (suc count) = field (codeCauses n) >>= λ code. parseCodes n count >>= λ codes. pure (code ∷ codes)
-
 -- The codes, behind the version v and the degree n. 8 follows the last of them.
-unfoldable pub parseCoprime : ℕ → ℕ → Parser Head
-parseCoprime v n =
-    checked (parseCodes n (suc v)) commonFactors >>= λ codes.
+unfoldable pub parseCoprime : Rules → ℕ → ℕ → Parser Head
+parseCoprime rules v n =
+    checked (fields (rules .numbers) (codeCauses n) (suc v)) commonFactors >>= λ codes.
     pure (record { version = v; degree = n; codes = codes })
 
 unfoldable pub parseHead : Rules → Parser Head
-parseHead rules = field (versionCauses rules) >>= λ v. field degreeCauses >>= parseCoprime v
+parseHead rules = field (rules .numbers) (versionCauses rules) >>= λ v. field (rules .numbers) degreeCauses >>= parseCoprime rules v
 
 -- 15: longer than 40 bytes.
 abbrev pub sizeCauses : ℕ → List Cause
@@ -88,12 +83,8 @@ textCauses size bytes = ltb (length bytes) size gives 9 ∷ anyUnprintable (take
 unfoldable pub parseText : ℕ → Parser (List ℕ)
 parseText size bytes = barring (textCauses size bytes) (λ _. parsed (take size bytes) (drop size bytes)) bytes
 
-unfoldable pub parseName : Parser (List ℕ)
-parseName = field sizeCauses >>= parseText
-
--- 17: bytes after the name.
-unfoldable pub parseEnd : List ℕ → Parser (List ℕ)
-parseEnd name rest = barring (ltb 0 (length rest) gives 17 ∷ []) (pure name) rest
+unfoldable pub parseName : Rules → Parser (List ℕ)
+parseName rules = field (rules .numbers) sizeCauses >>= parseText
 
 -- So many lists of levels, each of the length given.
 abbrev pub parseLists : Rules → ℕ → ℕ → Parser (List (List ℕ))
@@ -105,7 +96,7 @@ parseLists rules order (suc count) =
 unfoldable pub parseBody : Rules → Head → Parser Trial
 parseBody rules head =
     parseLists rules (2 ^ head .degree) (suc (head .version)) >>= λ lists.
-    parseName >>= parseEnd >>= λ name.
+    parseName rules >>= parseEnd >>= λ name.
     pure (record { head = head; lists = lists; name = name })
 
 -- A whole file, under any rules and under today's.

@@ -8,7 +8,7 @@ use Rattle.reply.specs.Numbers.{numberOf}
 use Rattle.reply.specs.declared.Refusal.{Refusal}
 use Rattle.trial_reader.specs.declared.lists.Behind.{Behind}
 use Rattle.trial_reader.specs.declared.lists.Behind.the-variants.{At, Refused as Impassable}
-use Rattle.trial.specs.Parser.{parsed, failed}
+use Rattle.leb128.specs.Parser.{parsed, failed}
 use Rattle.trial.specs.Rules.{today}
 use Rattle.trial.specs.Levels.{parseLevels}
 use Rattle.trial.specs.Trial.{parseLists}

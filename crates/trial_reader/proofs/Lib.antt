@@ -1,5 +1,5 @@
-pub mod Groups
 pub mod Told
+pub mod Bytes
 pub mod Passes
 pub mod Text
 pub mod Part

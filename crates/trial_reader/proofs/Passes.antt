@@ -12,12 +12,11 @@ use lib.Seq.{drop-cons, append-snoc, take-append-seam, set-append-seam}
 use borrow.Author.Tests.{lt-ltb, le-ltb}
 use Rattle.levels.specs.Levels.{repeated, repeats}
 use Rattle.levels.proofs.Members.{repeats-more}
-use Rattle.reply.specs.Reply.{_gives_}
+use Rattle.reply.specs.Reply.{_gives_, over}
+use Rattle.leb128.specs.Parser.{parsed, failed, Parser, pure, resume, barring}
+use Rattle.leb128.specs.Number.{limits64, number, field}
 use Rattle.trial.specs.Rules.{today}
-use Rattle.trial.specs.Parser.{parsed, failed, Parser, pure, resume, barring}
-use Rattle.trial.specs.Number.{number, field}
 use Rattle.trial.specs.Levels.{levelCauses, parseLevels}
-use Rattle.trial.specs.Replies.{over}
 
 pub record Passed (file : List ℕ) (at count next i : ℕ) (before : List ℕ) : Type 0 where
   pub size : length before ≡ i
@@ -43,7 +42,8 @@ module _ {file : List ℕ} {at count next i : ℕ} {before : List ℕ} (p : Pass
 
   module _ (more : i < count) where
     next-level : cond (repeats (reverse before)) (failed 14)
-        (resume (field (levelCauses today before) (drop next file)) (λ level. parseLevels today (count - (i + 1)) (level ∷ before)))
+        (resume (field limits64 (levelCauses today before) (drop next file))
+        (λ level. parseLevels today (count - (i + 1)) (level ∷ before)))
         ≡ parseLevels today count [] (drop at file)
     next-level = let s : count - i ≡ suc (count - (i + 1)) = omega arith in rw s at (p .same)
 

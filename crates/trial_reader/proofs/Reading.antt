@@ -9,13 +9,14 @@ use lib.ListN.{length, take, drop, length-drop}
 use lib.Seq.{length-take-le}
 use lib.Dec.{eqb}
 use borrow.Author.Tests.{lt-ltb, le-ltb}
+use Rattle.reply.specs.Reply.{over}
 use Rattle.reply.specs.Numbers.{numberOf}
 use Rattle.reply.specs.declared.Refusal.{Refusal}
 use Rattle.poly.proofs.Ranges.{inside}
 use Rattle.trial_reader.specs.declared.reader.Layout.{Layout}
 use Rattle.trial_reader.specs.declared.reader.ReadTrial.the-variants.{Content, Refused as Unreadable}
-use Rattle.trial.specs.Parser.{parsed, failed}
-use Rattle.trial.specs.Replies.{read, over}
+use Rattle.leb128.specs.Parser.{parsed, failed}
+use Rattle.trial.specs.Replies.{read}
 use Rattle.trial.proofs.Content.{version-is}
 use Rattle.trial_reader.specs.Inner.{contentOf, contentFrom, LayoutInside}
 use Rattle.trial_reader.specs.Answers.{readInto, ReadDone}

@@ -9,7 +9,7 @@ use Rattle.reply.specs.Numbers.{numberOf}
 use Rattle.trial_reader.specs.declared.reader.ReadTrial.{ReadTrial}
 use Rattle.trial_reader.specs.declared.reader.ReadTrial.the-variants.{Content, Refused}
 use Rattle.trial_reader.specs.declared.reader.Trial.{Trial}
-use Rattle.trial.specs.Parser.{Parsed}
+use Rattle.leb128.specs.Parser.{Parsed}
 use Rattle.trial.specs.Trial.{Trial as TrialContent}
 use Rattle.trial.specs.Replies.{read, readReply, nameRead, levelsAfter}
 

@@ -7,8 +7,6 @@ use mathlib.Core.List.{List, [], _∷_}
 use lib.ListN.{length, take, drop}
 use Rattle.levels.specs.Levels.{repeats}
 use Rattle.reply.specs.Numbers.{numberOf}
-use Rattle.trial_reader.specs.declared.numbers.ReadNumber.{ReadNumber}
-use Rattle.trial_reader.specs.declared.numbers.ReadNumber.the-variants.{Value, Refused}
 use Rattle.trial_reader.specs.declared.lists.Behind.{Behind}
 use Rattle.trial_reader.specs.declared.lists.Behind.the-variants.{At, Refused as Impassable}
 use Rattle.trial_reader.specs.declared.lists.Decoded.{Decoded}
@@ -22,30 +20,11 @@ use Rattle.trial_reader.specs.declared.reader.Verdict.{Verdict}
 use Rattle.trial_reader.specs.declared.reader.Verdict.the-variants.{Accepted, Refused as Unaccepted}
 use Rattle.trial_reader.specs.declared.reader.Content.{Content}
 use Rattle.poly.specs.Causes.{codeCauses, commonFactors}
-use Rattle.trial.specs.Parser.{Parsed, parsed, failed, Parser, pure, _>>=_, barring, checked}
-use Rattle.trial.specs.Number.{field, above, parseGroups, ceilingCauses}
+use Rattle.leb128.specs.Parser.{Parsed, parsed, failed, Parser, pure, _>>=_, barring, parseEnd}
+use Rattle.leb128.specs.Number.{limits64, field}
 use Rattle.trial.specs.Rules.{today}
 use Rattle.trial.specs.Levels.{parseLevels}
-use Rattle.trial.specs.Trial.{Head, Trial, headFrom, parseName, parseLists, parseEnd}
-
--- A number and the bytes behind it.
-abbrev pub numberParsed : List ℕ → ReadNumber → Parsed ℕ
-numberParsed file (Value n next) = parsed n (drop next file)
-numberParsed file (Refused why) = failed (numberOf why)
-
--- The position behind the number is one of the file's.
-abbrev pub NumberInside : List ℕ → ReadNumber → Type 0
-NumberInside file (Value n next) = next ≤ length file
-NumberInside file (Refused why) = Unit
-
--- The answer is what the parser of a number gives at the position.
-pub record Reads (parser : Parser ℕ) (file : List ℕ) (at : ℕ) (r : ReadNumber) : Type 0 where
-  pub says : numberParsed file r ≡ parser (drop at file)
-  pub inside : NumberInside file r
-
--- A number behind its first byte, which has the high bit set and the group low.
-abbrev pub parseMore : ℕ → Parser ℕ
-parseMore low = checked (λ bytes. above low (parseGroups 4 bytes)) (ceilingCauses 4294967295)
+use Rattle.trial.specs.Trial.{Head, Trial, headFrom, parseName, parseLists}
 
 -- The head with these codes, unless two of them have a common factor.
 abbrev pub coprimeHead : ℕ → ℕ → List ℕ → Parser Head
@@ -53,7 +32,7 @@ coprimeHead v n codes = barring (commonFactors codes) (pure (record { version = 
 
 -- The third code of version 2, and the head.
 abbrev pub thirdCode : ℕ → ℕ → ℕ → Parser Head
-thirdCode n f g = field (codeCauses n) >>= λ h. coprimeHead 2 n (f ∷ g ∷ h ∷ [])
+thirdCode n f g = field limits64 (codeCauses n) >>= λ h. coprimeHead 2 n (f ∷ g ∷ h ∷ [])
 
 -- The fields in front of the levels.
 abbrev pub headOf : CodeHead → Head
@@ -125,7 +104,7 @@ NameInside file (FoundName start size) = start + size ≡ length file
 NameInside file (Nameless why) = Unit
 
 pub record NameRead (file : List ℕ) (at : ℕ) (r : ReadName) : Type 0 where
-  pub says : nameParsed file r ≡ (parseName >>= parseEnd) (drop at file)
+  pub says : nameParsed file r ≡ (parseName today >>= parseEnd) (drop at file)
   pub inside : NameInside file r
 
 -- The content of an accepted file: its lists, as long as the layout says, at the front of the slices, and its name where it says.

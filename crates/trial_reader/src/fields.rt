@@ -1,8 +1,8 @@
 // The fields in front of the levels, and the size of the name: each a number with its own rule.
-use crate::numbers::ReadNumber;
-use crate::numbers::read_number;
+use crate::short::read_small;
 use codes::check_three;
 use euclid::gcd;
+use leb128::ReadNumber;
 use poly::Checked;
 use poly::Degree;
 use poly::check;
@@ -16,14 +16,15 @@ ghost use Rattle.reply.specs.Reply.{served, unless};
 ghost use Rattle.poly.specs.Limits.{outside};
 ghost use Rattle.poly.specs.Causes.{sheetDegreeCause, codeCauses, ownCauses};
 ghost use Rattle.trial.specs.Rules.{today};
-ghost use Rattle.trial.specs.Number.{field};
+ghost use Rattle.leb128.specs.Number.{limits64, field};
+ghost use Rattle.leb128.specs.Reading.{Reads};
 ghost use Rattle.trial.specs.Trial.{versionCauses, degreeCauses, sizeCauses, parseCoprime, parseHead};
-ghost use Rattle.trial_reader.specs.Inner.{Reads, coprimeHead, thirdCode, HeadRead};
+ghost use Rattle.trial_reader.specs.Inner.{coprimeHead, thirdCode, HeadRead};
 
 fn version_field(file: &[u8], at: usize) -> ReadNumber
-    ensures { λ r. ⌜ Reads (field (versionCauses today)) (now (file .entry)) at r ⌝ }
+    ensures { λ r. ⌜ Reads (field limits64 (versionCauses today)) (now (file .entry)) at r ⌝ }
 {
-    match read_number(file, at) {
+    match read_small(file, at) {
         ReadNumber::Refused(why) => ReadNumber::Refused(why),
         ReadNumber::Value(version, next) => {
             if version < 1 {
@@ -38,12 +39,15 @@ fn version_field(file: &[u8], at: usize) -> ReadNumber
 }
 
 fn degree_field(file: &[u8], at: usize) -> ReadNumber
-    ensures { λ r. ⌜ Reads (field degreeCauses) (now (file .entry)) at r ⌝ }
+    ensures { λ r. ⌜ Reads (field limits64 degreeCauses) (now (file .entry)) at r ⌝ }
 {
-    match read_number(file, at) {
+    match read_small(file, at) {
         ReadNumber::Refused(why) => ReadNumber::Refused(why),
         ReadNumber::Value(n, next) => {
-            if (Degree { n }).outside_sheets() {
+            if 4294967295 < n {
+                return ReadNumber::Refused(Refusal::SheetDegree);
+            }
+            if (Degree { n: n as u32 }).outside_sheets() {
                 return ReadNumber::Refused(Refusal::SheetDegree);
             }
             ReadNumber::Value(n, next)
@@ -51,22 +55,29 @@ fn degree_field(file: &[u8], at: usize) -> ReadNumber
     }
 }
 
+// A number of more than 32 bits is a code of a higher degree.
 fn code_field(file: &[u8], at: usize, n: u32) -> ReadNumber
-    ensures { λ r. ⌜ Reads (field (codeCauses n)) (now (file .entry)) at r ⌝ }
+    requires { ⌜ n ≤ 31 ⌝ }
+    ensures { λ r. ⌜ Reads (field limits64 (codeCauses n)) (now (file .entry)) at r ⌝ }
 {
-    match read_number(file, at) {
+    match read_small(file, at) {
         ReadNumber::Refused(why) => ReadNumber::Refused(why),
-        ReadNumber::Value(code, next) => match check(n, code) {
-            Checked::Refused(why) => ReadNumber::Refused(why),
-            Checked::Passed => ReadNumber::Value(code, next),
-        },
+        ReadNumber::Value(code, next) => {
+            if 4294967295 < code {
+                return ReadNumber::Refused(Refusal::CodeDegree);
+            }
+            match check(n, code as u32) {
+                Checked::Refused(why) => ReadNumber::Refused(why),
+                Checked::Passed => ReadNumber::Value(code, next),
+            }
+        }
     }
 }
 
 pub(crate) fn size_field(file: &[u8], at: usize) -> ReadNumber
-    ensures { λ r. ⌜ Reads (field sizeCauses) (now (file .entry)) at r ⌝ }
+    ensures { λ r. ⌜ Reads (field limits64 sizeCauses) (now (file .entry)) at r ⌝ }
 {
-    match read_number(file, at) {
+    match read_small(file, at) {
         ReadNumber::Refused(why) => ReadNumber::Refused(why),
         ReadNumber::Value(size, next) => {
             if 40 < size {
@@ -99,7 +110,7 @@ pub(crate) fn read_head(file: &[u8]) -> ReadHead
         ReadNumber::Refused(why) => ReadHead::Refused(why),
         ReadNumber::Value(version, at) => match degree_field(file, at) {
             ReadNumber::Refused(why) => ReadHead::Refused(why),
-            ReadNumber::Value(degree, at) => read_codes(file, at, version, degree),
+            ReadNumber::Value(degree, at) => read_codes(file, at, version as u32, degree as u32),
         },
     }
 }
@@ -107,13 +118,15 @@ pub(crate) fn read_head(file: &[u8]) -> ReadHead
 // The codes, behind the version and the degree.
 fn read_codes(file: &[u8], at: usize, version: u32, degree: u32) -> ReadHead
     requires { ⌜ (1 ≤ version) × (version ≤ 2) × (outside 2 6 degree ≡ false) ⌝ }
-    ensures { λ r. ⌜ HeadRead (parseCoprime version degree) (now (file .entry)) at r ⌝ }
+    ensures { λ r. ⌜ HeadRead (parseCoprime today version degree) (now (file .entry)) at r ⌝ }
 {
     match code_field(file, at, degree) {
         ReadNumber::Refused(why) => ReadHead::Refused(why),
         ReadNumber::Value(f, at) => match code_field(file, at, degree) {
             ReadNumber::Refused(why) => ReadHead::Refused(why),
             ReadNumber::Value(g, at) => {
+                let f = f as u32;
+                let g = g as u32;
                 if version == 1 {
                     return two_codes(file, at, degree, f, g);
                 }
@@ -151,18 +164,21 @@ fn three_codes(file: &[u8], at: usize, degree: u32, f: u32, g: u32) -> ReadHead
 {
     match code_field(file, at, degree) {
         ReadNumber::Refused(why) => ReadHead::Refused(why),
-        ReadNumber::Value(h, at) => match check_three(degree, f, g, h) {
-            Checked::Refused(why) => ReadHead::Refused(why),
-            Checked::Passed => ReadHead::Found(
-                Head {
-                    version: 2,
-                    degree,
-                    f,
-                    g,
-                    h,
-                },
-                at,
-            ),
-        },
+        ReadNumber::Value(code, at) => {
+            let h = code as u32;
+            match check_three(degree, f, g, h) {
+                Checked::Refused(why) => ReadHead::Refused(why),
+                Checked::Passed => ReadHead::Found(
+                    Head {
+                        version: 2,
+                        degree,
+                        f,
+                        g,
+                        h,
+                    },
+                    at,
+                ),
+            }
+        }
     }
 }

@@ -2,8 +2,8 @@
 mod fields;
 mod lists;
 mod names;
-mod numbers;
 mod reader;
+mod short;
 
 pub use reader::Content;
 pub use reader::ReadTrial;

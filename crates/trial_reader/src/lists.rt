@@ -1,12 +1,12 @@
 // Lists of levels.
-use crate::numbers::ReadNumber;
-use crate::numbers::read_number;
+use crate::short::read_level;
+use leb128::ReadNumber;
 use levels::distinct;
 use reply::Refusal;
 ghost use mathlib.Core.Path.{_≡_};
 ghost use Prim.Native.Nat.{_≤_};
 ghost use lib.ListN.{length, take};
-ghost use Rattle.trial.specs.Replies.{over};
+ghost use Rattle.reply.specs.Reply.{over};
 ghost use Rattle.trial_reader.specs.Inner.{Decodes, ListRead, ListsRead};
 
 // The position behind a list of levels, or what it is refused for.
@@ -30,7 +30,7 @@ fn decode_levels(file: &[u8], at: usize, count: usize, out: &mut [u16]) -> Decod
     let mut next = at;
     let mut i: usize = 0;
     while i < count {
-        match read_number(file, next) {
+        match read_level(file, next) {
             ReadNumber::Refused(why) => {
                 return Decoded {
                     read: i,

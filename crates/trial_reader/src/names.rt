@@ -1,6 +1,6 @@
 // The name.
 use crate::fields::size_field;
-use crate::numbers::ReadNumber;
+use leb128::ReadNumber;
 use reply::Refusal;
 use trial::printable;
 ghost use Rattle.trial_reader.specs.Inner.{NameRead};

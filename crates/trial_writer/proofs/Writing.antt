@@ -1,20 +1,20 @@
 -- What the writer promises, from its decision on the content: refused, too little room, or the bytes put.
 use mathlib.Core.Path.{_≡_, sym, _∙_}
-use Prim.Native.Nat.{ℕ, _+_, _^_, _≤_, _<_}
+use Prim.Native.Nat.{ℕ, _^_, _≤_, _<_}
 use mathlib.Core.List.{List, [], _∷_}
-use native.Mathlib.Nat.{zero-add}
 use native.Mathlib.Omega.{arith}
 use lib.ListN.{length}
-use lib.Seq.{sets-eq}
 use borrow.Author.Tests.{lt-ltb, le-ltb}
 use Rattle.reply.specs.Numbers.{numberOf}
-use Rattle.reply.specs.Reply.{served, refused, unless}
+use Rattle.reply.specs.Reply.{served, refused, unless, over}
 use Rattle.reply.proofs.Order.{passed, failed, kept, none-applies}
 use Rattle.reply.specs.declared.Refusal.{Refusal}
 use Rattle.trial_writer.specs.declared.writer.Written.the-variants.{Length, Refused}
+use Rattle.leb128.specs.Writing.{Puts}
+use Rattle.leb128.proofs.Putting.{front-put}
 use Rattle.trial.specs.Trial.{Trial, trialFrom, encode}
-use Rattle.trial.specs.Replies.{over, listOf, contentCauses, roomCauses, writeReply}
-use Rattle.trial_writer.specs.Inner.{Short, Puts}
+use Rattle.trial.specs.Replies.{listOf, contentCauses, roomCauses, writeReply}
+use Rattle.trial_writer.specs.Inner.{Short}
 use Rattle.trial_writer.specs.Answers.{WriteDone}
 use Rattle.trial_writer.proofs.Versions.{has-second}
 use Rattle.trial.proofs.Order.{order-few}
@@ -40,8 +40,8 @@ module _ (t : Trial) (out : List ℕ) where
         → WriteDone t out (Length r) out′
     put-write h p =
         let e : writeReply t (length out) ≡ served (length (encode t) ∷ []) = last-cause ∙ rw (le-ltb (length out) (length (encode t)) h) in
-        let room : 0 + length (encode t) ≤ length out = omega arith in
-        record { reply = rw (e, p .next, zero-add); after = rw (e, p .after, sets-eq (encode t) out 0 room, zero-add) }
+        let (next, after) = front-put h p in
+        record { reply = rw (e, next); after = rw (e, after) }
 
 few : (t : Trial) → Sound t → (k : ℕ) → k < length (t .lists) → length (listOf k t) ≤ 64
 few t s k h =

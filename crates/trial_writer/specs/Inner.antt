@@ -1,11 +1,9 @@
--- Only contracts of functions inside the crate use these definitions: the lists that a version has, bytes put into a slice, and what
--- leaves room for them.
+-- Only contracts of functions inside the crate use these definitions: the lists that a version has, and what leaves room for them.
 use mathlib.Core.Bool.{false}
 use mathlib.Core.Path.{_≡_}
 use Prim.Native.Nat.{ℕ, suc, _+_, _≤_}
 use mathlib.Core.List.{List, [], _∷_}
 use lib.ListN.{length, take}
-use lib.Seq.{sets}
 use Rattle.poly.specs.Limits.{outside}
 use Rattle.trial.specs.Trial.{encodeBody}
 
@@ -20,11 +18,6 @@ pub record Short (v : ℕ) (powers forces times name : List ℕ) : Type 0 where
   pub fewForces : length forces ≤ 64
   pub fewTimes : v ≡ 2 → length times ≤ 64
   pub shortName : length name ≤ 40
-
--- The bytes are put into a slice from the position on; the answer is the position behind them.
-pub record Puts (out : List ℕ) (at : ℕ) (bytes : List ℕ) (r : ℕ) (out′ : List ℕ) : Type 0 where
-  pub next : r ≡ at + length bytes
-  pub after : out′ ≡ sets out at bytes
 
 -- There is room from the position on for the lists and the name.
 pub record BodyFits (out : List ℕ) (at v : ℕ) (powers forces times name : List ℕ) : Type 0 where

@@ -2,7 +2,6 @@
 mod checks;
 mod lists;
 mod names;
-mod numbers;
 mod writer;
 
 pub use writer::Written;

@@ -1,7 +1,7 @@
 // The name.
 ghost use Prim.Native.Nat.{_+_, _≤_};
 ghost use lib.ListN.{length};
-ghost use Rattle.trial_writer.specs.Inner.{Puts};
+ghost use Rattle.leb128.specs.Writing.{Puts};
 
 // Puts the bytes of a name at a position of `out`, and gives the position behind them.
 pub(crate) fn put_name(out: &mut [u8], at: usize, name: &[u8]) -> usize

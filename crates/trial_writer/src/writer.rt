@@ -3,8 +3,8 @@ use crate::checks::check_content;
 use crate::lists::levels_width;
 use crate::lists::put_lists;
 use crate::names::put_name;
-use crate::numbers::put_number;
-use crate::numbers::width;
+use leb128::put_number;
+use leb128::width;
 use poly::Checked;
 use reply::Refusal;
 ghost use mathlib.Core.Bool.{false};
@@ -13,8 +13,9 @@ ghost use mathlib.Core.List.{[], _∷_};
 ghost use Prim.Native.Nat.{_≤_};
 ghost use lib.ListN.{length};
 ghost use Rattle.poly.specs.Limits.{outside};
+ghost use Rattle.leb128.specs.Writing.{Puts};
 ghost use Rattle.trial.specs.Trial.{headFrom, trialFrom, encodeHead, encodeBody, encode};
-ghost use Rattle.trial_writer.specs.Inner.{listsFrom, Short, BodyFits, Puts};
+ghost use Rattle.trial_writer.specs.Inner.{listsFrom, Short, BodyFits};
 ghost use Rattle.trial_writer.specs.Answers.{WriteDone};
 
 // How many bytes the encoding of a content takes.
@@ -34,14 +35,14 @@ fn encoded_size(
         ⌜ r ≡ length (encode (trialFrom version degree (f ∷ g ∷ h ∷ [])
         (now (powers .entry) ∷ now (forces .entry) ∷ now (times .entry) ∷ []) (now (name .entry)))) ⌝ }
 {
-    let head = width(version) + width(degree) + width(f) + width(g);
+    let head = width(version as u64) + width(degree as u64) + width(f as u64) + width(g as u64);
     let lists = levels_width(powers) + levels_width(forces);
     let size = name.len();
-    let shared = head + lists + width(size as u32) + size;
+    let shared = head + lists + width(size as u64) + size;
     if version == 1 {
         return shared;
     }
-    shared + width(h) + levels_width(times)
+    shared + width(h as u64) + levels_width(times)
 }
 
 // Puts the fields in front of the levels at the front of `out`, and gives the position behind them.
@@ -50,14 +51,14 @@ fn put_head(out: &mut [u8], version: u32, degree: u32, f: u32, g: u32, h: u32) -
     requires room { ⌜ length (encodeHead (headFrom version degree (f ∷ g ∷ h ∷ []))) ≤ length (now out) ⌝ }
     ensures { λ r. ⌜ Puts (now (out .entry)) 0 (encodeHead (headFrom version degree (f ∷ g ∷ h ∷ []))) r (now (out .exit)) ⌝ }
 {
-    let at = put_number(out, 0, version);
-    let at = put_number(out, at, degree);
-    let at = put_number(out, at, f);
-    let at = put_number(out, at, g);
+    let at = put_number(out, 0, version as u64);
+    let at = put_number(out, at, degree as u64);
+    let at = put_number(out, at, f as u64);
+    let at = put_number(out, at, g as u64);
     if version == 1 {
         return at;
     }
-    put_number(out, at, h)
+    put_number(out, at, h as u64)
 }
 
 // Puts the lists and the name at a position of `out`, and gives the position behind them.
@@ -78,7 +79,7 @@ fn put_body(
 {
     let at = put_lists(out, at, version, powers, forces, times);
     let size = name.len();
-    let at = put_number(out, at, size as u32);
+    let at = put_number(out, at, size as u64);
     put_name(out, at, name)
 }
 

@@ -13,7 +13,6 @@ use lib.Dec.{eqb}
 use lib.ListN.{length, getD, replicate}
 use lib.Seq.{getD-set-same, getD-set-other}
 use Rattle.reply.specs.Reply.{Reply, served, refused, spent, after}
-use Rattle.poly.specs.Limits.{listLength}
 use Rattle.poly.proofs.Ranges.{list-length-lt}
 use Rattle.pairs.specs.Counts.{sum}
 use Rattle.walk.specs.declared.Walk.{Walk}
@@ -151,11 +150,6 @@ module _ (walk : Walk) (sound : Sound walk) (calls : List Call) where
   pub moved-on : returns (answers walk calls) ≡ 0 → last walk calls .position ≡ walk .position + howMany gave (answers walk calls)
   moved-on none = adds-up (λ (w : Walk). w .position) gave returned one-position walk sound calls none
 
-  -- so no more are given than there are from there on
-  given-le : returns (answers walk calls) ≡ 0 → walk .position + howMany gave (answers walk calls) ≤ listLength (last walk calls .degree)
-  given-le none =
-      rw (← moved-on none) (good (last walk calls) (last-sound walk sound calls .accepted) .position)
-
 -- what is given to one bonder is given
 part-of : (bonder : ℕ) (l : List Answered) → howMany (givenTo bonder) l ≤ howMany gave l
 part-of bonder [] = omega arith
@@ -178,13 +172,26 @@ part-of bonder (first ∷ rest) =
 pub nothing-yet : (i : ℕ) → _≡_ {A = ℕ} (getD (replicate 8 0) i 0) 0
 nothing-yet i = let l = not-above 0 (replicate 8 0) refl i in omega arith
 
--- from the start, a count is below the highest up to the first return
+-- a count that is not above the position is not above it up to the next return
+pub count-le : (walk : Walk) → Sound walk → (calls : List Call) → returns (answers walk calls) ≡ 0 → (bonder : ℕ)
+    → countOf bonder walk ≤ walk .position → countOf bonder (last walk calls) ≤ last walk calls .position
+count-le walk sound calls none bonder low =
+    let part = part-of bonder (answers walk calls) in
+    let is = count walk sound calls bonder in
+    let at = moved-on walk sound calls none in
+    omega arith
+
+-- so it is below the highest, since the position is not past the list's end
+pub below-full : (walk : Walk) → Sound walk → (bonder : ℕ) → countOf bonder walk ≤ walk .position → countOf bonder walk < fullCount
+below-full walk sound bonder low =
+    let g = good walk (sound .accepted) in
+    let end = g .position in
+    omega (arith, list-length-lt (walk .degree) (g .degree-high))
+
+-- from the start, it is so up to the first return
 pub not-full : (n : ℕ) → Sound (begun n) → (calls : List Call) → returns (answers (begun n) calls) ≡ 0
     → (bonder : ℕ) → countOf bonder (last (begun n) calls) < fullCount
 not-full n sound calls none bonder =
-    let l = given-le (begun n) sound calls none in
-    let part = part-of bonder (answers (begun n) calls) in
-    let is = count (begun n) sound calls bonder in
-    let high = good (last (begun n) calls) (last-sound (begun n) sound calls .accepted) .degree-high in
     let first = nothing-yet bonder in
-    omega (arith, list-length-lt (last (begun n) calls .degree) high)
+    below-full (last (begun n) calls) (last-sound (begun n) sound calls) bonder
+    (count-le (begun n) sound calls none bonder (omega arith))

@@ -1,5 +1,5 @@
 -- The pair of a record is not looked at by any test, so a record and the one with the pair set right answer alike but for that pair, and
--- the first call that moves the walk leaves the same record of both: induction over the list of calls.
+-- the first call that moves the walk leaves the same record of both: induction over the list of calls. Then the call that sets it right.
 use mathlib.Core.Bool.{Bool, true, false, cond}
 use mathlib.Core.List.{List, [], _∷_}
 use mathlib.Core.Path.{_≡_, refl, sym, ap, subst, _∙_}
@@ -9,14 +9,15 @@ use native.Mathlib.Omega.{arith}
 use lib.Dec.{ltb}
 use lib.ListN.{length, set, take}
 use Rattle.reply.specs.Reply.{Reply, served, refused, spent, Cause, _gives_, unless, after}
+use Rattle.reply.proofs.Order.{kept}
 use Rattle.poly.specs.Limits.{listLength}
 use Rattle.euclid.specs.Chain.{Pair}
 use Rattle.pairs.specs.Replies.{pairReply}
 use Rattle.walk.specs.declared.Walk.{Walk}
 use Rattle.walk.specs.Walks.{nextPair, badRecord, recordCause, held, bonderCause, fullCause, lookReply, drawReply, movedOn, afterDraw}
-use Rattle.walk.specs.Walks.{setMarkReply, afterSetMark, goBackReply, afterGoBack}
+use Rattle.walk.specs.Walks.{setMarkReply, afterSetMark, goBackReply, afterGoBack, righted, setRightReply, afterSetRight}
 use Rattle.walk.specs.Calls.{Call, look, draw, setMark, goBack, replyTo, recordAfter, answers, last, callAt, answer, howMany, moved}
-use Rattle.walk.specs.Claims.{righted, otherPair, withPair, RightedClaim}
+use Rattle.walk.specs.Claims.{otherPair, withPair, RightedClaim}
 use Rattle.walk.proofs.Looks.{accepted}
 use Rattle.walk.proofs.Keeping.{right-at, sets-right}
 
@@ -175,3 +176,17 @@ as-righted walk = (
     left = left walk calls;
   },
 )
+
+-- ---- the call that sets the pair right
+module _ (walk : Walk) where
+  pub right-tested : unless (recordCause walk ∷ []) (served []) ≡ setRightReply walk
+  unfolding setRightReply
+  right-tested = refl
+
+  pub right-refused : {k : ℕ} → refused k ≡ setRightReply walk → walk ≡ afterSetRight walk
+  unfolding afterSetRight
+  right-refused e = kept e _ walk
+
+  pub right-done : served [] ≡ setRightReply walk → righted walk ≡ afterSetRight walk
+  unfolding afterSetRight
+  right-done e = rw (← e)

@@ -13,7 +13,7 @@ use Rattle.pairs.specs.Counts.{sum}
 use Rattle.pairs.specs.Pairs.{entry}
 use Rattle.pairs.specs.Replies.{pairReply}
 use Rattle.walk.specs.declared.Walk.{Walk}
-use Rattle.walk.specs.Walks.{walkAt, begun, badRecord, entryReply, held}
+use Rattle.walk.specs.Walks.{begun, badRecord, entryReply, held, righted}
 use Rattle.walk.specs.Calls.{Call, look, draw, setMark, goBack, replyTo, recordAfter, answers, last, callAt, answer, between}
 use Rattle.walk.specs.Calls.{howMany, draws, returns, sets, givenTo, gave, moved}
 use Rattle.walk.specs.Past.{pastAt, expected, recordOf}
@@ -167,10 +167,6 @@ pub record SetsRight (walk : Walk) (call : Call) : Type 0 where
 
 abbrev pub SetsRightClaim : Type 0
 SetsRightClaim = (walk : Walk) (call : Call) → SetsRight walk call
-
--- The record with the pair set right.
-abbrev pub righted : Walk → Walk
-righted walk = walkAt (walk .degree) (walk .position) (walk .marks) (walk .counts)
 
 -- A reply that gives this pair where the other gives one.
 abbrev pub otherPair : Pair → Reply → Reply

@@ -1,5 +1,5 @@
 -- The walk (document 01, "Walk"; document 02, request c: its marks, g: its bonders, and h: the next pair kept): what start, look, draw,
--- setting a mark and going back to one reply, and the record after them.
+-- setting a mark, going back to one and setting the next pair right reply, and the record after them.
 use Prim.Native.Nat.{ℕ, _+_, _-_}
 use mathlib.Core.Bool.{Bool, false, _||_, _&&_, cond}
 use mathlib.Core.List.{List, [], _∷_}
@@ -151,3 +151,14 @@ goBackReply walk mark = unless (recordCause walk ∷ markCause mark ∷ emptyCau
 unfoldable pub afterGoBack : Walk → ℕ → Walk
 afterGoBack walk mark =
     after (goBackReply walk mark) (walkAt (walk .degree) (getD (walk .marks) mark 0 - 1) (walk .marks) (walk .counts)) walk
+
+-- The record with the pair set right.
+abbrev pub righted : Walk → Walk
+righted walk = walkAt (walk .degree) (walk .position) (walk .marks) (walk .counts)
+
+-- Setting the pair right, of a record made by other means: 3 alone refuses it.
+unfoldable pub setRightReply : Walk → Reply
+setRightReply walk = unless (recordCause walk ∷ []) (served [])
+
+unfoldable pub afterSetRight : Walk → Walk
+afterSetRight walk = after (setRightReply walk) (righted walk) walk

@@ -1,4 +1,4 @@
-// A walk through the list of a degree: start, look, draw, set a mark, go back to one.
+// A walk through the list of a degree: start, look, draw, set a mark, go back to one, set the next pair right.
 use pairs::Found;
 use poly::Checked;
 use poly::Count;
@@ -16,13 +16,15 @@ ghost use Rattle.poly.specs.Limits.{listLength};
 ghost use Rattle.poly.specs.Replies.{checkedReply};
 ghost use Rattle.walk.specs.Walks.{walkAt, begun, changeReply, startReply, started, anyAbove, badRecord, recordCause, nextReply};
 ghost use Rattle.walk.specs.Walks.{lookReply, drawReply, afterDraw, setMarkReply, afterSetMark, goBackReply, afterGoBack};
+ghost use Rattle.walk.specs.Walks.{setRightReply, afterSetRight};
 
 // The highest count.
 const FULL_COUNT: u64 = 1000000000000000000;
 
 // Document 01's walk record, with document 02's eight marks, eight counts and next pair. A mark is 0 if it is empty, else the marked
 // position plus 1; a count is how many pairs its bonder was given. The next pair, f and g, is 0 and 0 when the walk is spent; in a record
-// that was not reached from a start by calls alone it may be anything, until a draw gives a pair or a return is served.
+// that was not reached from a start by calls alone it may be anything, until a draw gives a pair, a return is served or the pair is set
+// right.
 #[repr(C)]
 pub struct Walk {
     pub degree: u32,
@@ -39,7 +41,7 @@ pub enum Change {
     Refused(Refusal),
 }
 
-// What a start, the setting of a mark or going back answers, and the record after it.
+// What a start, the setting of a mark, going back, setting the next pair right or reading a saved walk answers, and the record after it.
 pub struct Changed {
     pub answer: Change,
     pub walk: Walk,
@@ -157,7 +159,7 @@ fn replaced(numbers: [u64; 8], place: u32, new: u64) -> [u64; 8]
 
 impl Walk {
     // The test of the record that every call on it makes first: number 3.
-    fn checked(self) -> Checked
+    pub fn checked(self) -> Checked
         ensures { λ r. ⌜ checkedReply r ≡ unless (recordCause self ∷ []) (served []) ⌝ }
     {
         let n = self.degree;
@@ -299,6 +301,23 @@ impl Walk {
                 Changed {
                     answer: Change::Done,
                     walk: walk_at(self.degree, stored - 1, marks, counts),
+                }
+            }
+        }
+    }
+
+    // Works out the next pair of a record that was put together by other means, as from a file.
+    pub fn set_right(self) -> Changed
+        ensures { λ r. ⌜ (changeReply (r .answer) ≡ setRightReply self) × (r .walk ≡ afterSetRight self) ⌝ }
+    {
+        match self.checked() {
+            Checked::Refused(refusal) => self.refused(refusal),
+            Checked::Passed => {
+                let marks = self.marks;
+                let counts = self.counts;
+                Changed {
+                    answer: Change::Done,
+                    walk: walk_at(self.degree, self.position, marks, counts),
                 }
             }
         }

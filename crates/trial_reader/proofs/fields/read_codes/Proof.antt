@@ -2,19 +2,37 @@
 use mathlib.Core.Path.{_≡_}
 use native.Mathlib.Omega.{arith}
 use Rattle.poly.specs.Causes.{codeCauses}
-use Rattle.trial.specs.Number.{field}
-use Rattle.trial_reader.proofs.Told.{inside-told}
-use Rattle.trial_reader.proofs.Heads.{first-refused, second-refused, both-passed, both-read, three-read}
+use Rattle.poly.proofs.Ranges.{within}
+use Rattle.leb128.specs.Number.{limits64, field}
+use Rattle.leb128.proofs.Told.{inside-told}
+use Rattle.trial_reader.proofs.Heads.{code-fits, first-refused, second-refused, both-passed, both-read, three-read}
 use borrow.Author.Needs.{needs}
 use Rattle.trial_reader.proofs.fields.read_codes.Statement.{statement}
 use Rattle.trial_reader.proofs.fields.read_codes.Tie as tie
+
+cast-f : tie.Need-cast-f
+cast-f c =
+    let f = c .before .before .before .before .before in
+    let start = f .before .before .before .before in
+    let a = start .args in
+    omega (arith, code-fits (a .degree) (a .file .now) (a .at) (f .before .before .code-field .ensures) (f .f .given .1) (start .pre .2))
+
+cast-g : tie.Need-cast-g
+cast-g c =
+    let g = c .before in
+    let f = g .before .before .before .before in
+    let start = f .before .before .before .before in
+    let a = start .args in
+    let reads = g .before .before .code-field2 .ensures in
+    omega (arith, code-fits (a .degree) (a .file .now) (f .f .given .0 .1 .0) reads (g .g .given .1) (start .pre .2))
 
 two-codes-requires : tie.Need-two-codes-requires
 two-codes-requires c κs =
     let g = c .before .before in
     let a = g .before .before .before .before .before .before .before .before .args in
     let f = g .before .before .before .before .f .given in
-    inside-told (field (codeCauses (a .degree))) (a .file .now) (f .0 .1 .0) (g .before .before .code-field2 .ensures) (g .g .given .1)
+    inside-told (field limits64 (codeCauses (a .degree))) (a .file .now) (f .0 .1 .0)
+    (g .before .before .code-field2 .ensures) (g .g .given .1)
 
 returns : tie.Need-returns
 returns c =
@@ -63,12 +81,14 @@ pub read-codes-spec : {M : Type 1} → statement M
 read-codes-spec =
     tie.close
     (tie.spec
-    (λ c κs. search needs)
+    (λ c κs. omega (arith, within 2 6 (c .before .pre .2) .1))
     (λ c. search needs)
     (λ c. search needs)
-    (λ c κs. search needs)
+    (λ c κs. omega (arith, within 2 6 (c .before .before .before .before .before .pre .2) .1))
     (λ c. search needs)
     (λ c. search needs)
+    cast-f
+    cast-g
     two-codes-requires
     returns
     three-codes-requires

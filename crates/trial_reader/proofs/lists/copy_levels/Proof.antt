@@ -5,7 +5,7 @@ use native.Mathlib.Numerals.{add-one}
 use native.Mathlib.Omega.{arith}
 use lib.ListN.{length, take, length-set}
 use lib.Seq.{take-suc, length-take-le}
-use Rattle.trial.specs.Replies.{over}
+use Rattle.reply.specs.Reply.{over}
 use Rattle.trial_reader.proofs.Passes.{over-more}
 use Rattle.trial_reader.proofs.lists.copy_levels.Statement.{statement}
 use Rattle.trial_reader.proofs.lists.copy_levels.Tie as tie

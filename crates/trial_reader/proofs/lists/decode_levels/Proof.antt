@@ -3,11 +3,11 @@ use mathlib.Core.Path.{_≡_, refl}
 use mathlib.Core.List.{[]}
 use Prim.Native.Nat.{ℕ, _-_}
 use native.Mathlib.Omega.{arith}
+use Rattle.leb128.specs.Parser.{parsed}
+use Rattle.leb128.specs.Number.{number}
+use Rattle.leb128.proofs.Told.{value-told, inside-told, refusal-told}
 use borrow.Author.Needs.{needs}
 use lib.ListN.{drop}
-use Rattle.trial.specs.Parser.{parsed}
-use Rattle.trial.specs.Number.{number}
-use Rattle.trial_reader.proofs.Told.{value-told, inside-told, refusal-told}
 use Rattle.trial_reader.proofs.Passes.{Storing, none-passed, no-number, too-high, one-passed}
 use Rattle.trial_reader.proofs.Passes.{front, all-stored, one-stored}
 use Rattle.trial_reader.proofs.lists.decode_levels.Statement.{statement}
@@ -35,7 +35,7 @@ returns c =
     let start = c .before .before .before .before .before .before .before .before in
     let a = start .args in
     let s = c .before .before .before .before .before .loop in
-    let e = refusal-told number (a .file .now) (s .next) (c .before .before .before .read-number .ensures) (c .before .why .given .1) in
+    let e = refusal-told number (a .file .now) (s .next) (c .before .before .before .read-level .ensures) (c .before .why .given .1) in
     record {
       few = omega (arith, start .pre .1, s .inv .kept, s .inv .passed .few);
       says = rw (front (s .inv)) (no-number (s .inv .passed) (c .before .before .before .before .loop-test .taken) _ e);
@@ -58,7 +58,7 @@ module _ (c : tie.After-level Inv-loop μ-loop) where
 
   level-told : number (drop (head .loop .next) (entry .args .file .now))
       ≡ parsed level (drop (c .level .given .0 .1 .0) (entry .args .file .now))
-  level-told = value-told number (entry .args .file .now) (head .loop .next) (c .before .before .read-number .ensures) (c .level .given .1)
+  level-told = value-told number (entry .args .file .now) (head .loop .next) (c .before .before .read-level .ensures) (c .level .given .1)
 
 returns-2 : tie.Need-returns-2 Inv-loop μ-loop
 returns-2 c =
@@ -82,7 +82,7 @@ loop-again c =
     let s = head at .loop in
     one-stored (s .inv) (level at) _ (omega (arith, entry at .pre .1))
     (one-passed (s .inv .passed) (turn at .loop-test .taken) (level at) _ (level-told at) (c .if1 .left))
-    (inside-told number (entry at .args .file .now) (s .next) (at .before .before .read-number .ensures) (at .level .given .1))
+    (inside-told number (entry at .args .file .now) (s .next) (at .before .before .read-level .ensures) (at .level .given .1))
 
 returns-3 : tie.Need-returns-3 Inv-loop μ-loop
 returns-3 c =

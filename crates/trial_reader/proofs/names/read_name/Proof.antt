@@ -4,11 +4,11 @@ use mathlib.Core.Bool.{not}
 use Prim.Native.Nat.{_≤_}
 use lib.ListN.{length, take, drop}
 use native.Mathlib.Omega.{arith}
-use Rattle.trial.specs.Parser.{parsed}
-use Rattle.trial.specs.Number.{field}
+use Rattle.leb128.specs.Parser.{parsed}
+use Rattle.leb128.specs.Number.{limits64, field}
+use Rattle.leb128.proofs.Told.{value-told, inside-told, refusal-told}
 use Rattle.trial.specs.Trial.{sizeCauses, anyUnprintable, parseName}
 use Rattle.trial.proofs.Flags.{denied, upheld}
-use Rattle.trial_reader.proofs.Told.{value-told, inside-told, refusal-told}
 use Rattle.trial_reader.proofs.Part.{part-within}
 use Rattle.trial_reader.proofs.Text.{name-missing, name-unprintable, name-trails, name-last}
 use borrow.Author.Needs.{needs}
@@ -22,15 +22,15 @@ entry c = c .before .before .before .before
 size-read : (c : tie.After-count) →
     let a = entry c .args in
     let v = c .count .given .0 in
-    field sizeCauses (drop (a .at) (a .file .now)) ≡ parsed (v .0) (drop (v .1 .0) (a .file .now))
+    field limits64 sizeCauses (drop (a .at) (a .file .now)) ≡ parsed (v .0) (drop (v .1 .0) (a .file .now))
 size-read c =
     let a = entry c .args in
-    value-told (field sizeCauses) (a .file .now) (a .at) (c .before .before .size-field .ensures) (c .count .given .1)
+    value-told (field limits64 sizeCauses) (a .file .now) (a .at) (c .before .before .size-field .ensures) (c .count .given .1)
 
 size-inside : (c : tie.After-count) → c .count .given .0 .1 .0 ≤ length (entry c .args .file .now)
 size-inside c =
     let a = entry c .args in
-    inside-told (field sizeCauses) (a .file .now) (a .at) (c .before .before .size-field .ensures) (c .count .given .1)
+    inside-told (field limits64 sizeCauses) (a .file .now) (a .at) (c .before .before .size-field .ensures) (c .count .given .1)
 
 sub-if1 : tie.Need-sub-if1
 sub-if1 c = size-inside (c .before)
@@ -83,7 +83,7 @@ unfolding parseName
 returns-4 c =
     let a = c .before .before .before .before .before .args in
     let e =
-    refusal-told (field sizeCauses) (a .file .now) (a .at) (c .before .before .before .size-field .ensures)
+    refusal-told (field limits64 sizeCauses) (a .file .now) (a .at) (c .before .before .before .size-field .ensures)
     (c .before .why .given .1) in
     record { says = rw e; inside = tt }
 
@@ -102,7 +102,6 @@ read-name-spec =
     tie.close
     (tie.spec
     (λ c κs. search needs)
-    (λ c. search needs)
     (λ c. search needs)
     (λ c. search needs)
     sub-if1

@@ -5,13 +5,13 @@ use mathlib.Core.List.{List}
 use Prim.Native.Nat.{ℕ, suc}
 use lib.ListN.{drop}
 use Rattle.poly.specs.Limits.{outside}
-use Rattle.poly.specs.Causes.{commonFactors}
+use Rattle.poly.specs.Causes.{codeCauses, commonFactors}
 use Rattle.poly.specs.Replies.{countReply}
-use Rattle.trial.specs.Parser.{parsed, checked}
+use Rattle.leb128.specs.Parser.{parsed, checked}
+use Rattle.leb128.specs.Number.{limits64, number, field, fields}
+use Rattle.leb128.proofs.Parser.{with-parsed, checked-parsed}
 use Rattle.trial.specs.Rules.{today}
-use Rattle.trial.specs.Number.{number, field}
-use Rattle.trial.specs.Trial.{Head, versionCauses, degreeCauses, parseCodes, parseCoprime, parseHead, parse}
-use Rattle.trial.proofs.Parser.{with-parsed, checked-parsed}
+use Rattle.trial.specs.Trial.{Head, versionCauses, degreeCauses, parseCoprime, parseHead, parse}
 use Rattle.trial.proofs.Order.{order-there, order-is, order-few}
 use Rattle.trial_reader.specs.Inner.{headOf, headParsed}
 use borrow.Author.Needs.{needs}
@@ -23,9 +23,9 @@ head-degree : (bytes : List ℕ) {head : Head} {rest : List ℕ} → parseHead t
     → outside 2 6 (head .degree) ≡ false
 unfolding parseHead parseCoprime
 head-degree bytes {head} e =
-    with-parsed (field (versionCauses today)) _ bytes e λ v r₁ p₁ e₁.
-    with-parsed (field degreeCauses) _ r₁ e₁ λ n r₂ p₂ e₂.
-    with-parsed (checked (parseCodes n (suc v)) commonFactors) _ r₂ e₂ λ codes r₃ p₃ e₃.
+    with-parsed (field limits64 (versionCauses today)) _ bytes e λ v r₁ p₁ e₁.
+    with-parsed (field limits64 degreeCauses) _ r₁ e₁ λ n r₂ p₂ e₂.
+    with-parsed (checked (fields limits64 (codeCauses n) (suc v)) commonFactors) _ r₂ e₂ λ codes r₃ p₃ e₃.
     let head-is : head ≡ record { version = v; degree = n; codes = codes } = cc in
     rw head-is (checked-parsed number degreeCauses r₁ p₂ .0 .0)
 

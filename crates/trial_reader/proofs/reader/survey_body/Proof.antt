@@ -3,7 +3,7 @@ use mathlib.Core.Path.{_≡_}
 use Prim.Native.Nat.{suc, _^_}
 use native.Mathlib.Omega.{arith}
 use lib.ListN.{drop}
-use Rattle.trial.specs.Parser.{parsed}
+use Rattle.leb128.specs.Parser.{parsed}
 use Rattle.trial.specs.Rules.{today}
 use borrow.Author.Needs.{needs}
 use Rattle.trial.specs.Trial.{parseLists, parseBody}

@@ -4,16 +4,16 @@ use Prim.Native.Nat.{suc, _+_, _-_, _*_, _≤_}
 use native.Mathlib.Nat.{add-zero, zero-add}
 use native.Mathlib.Numerals.{add-one}
 use native.Mathlib.Omega.{arith}
+use Rattle.leb128.specs.Number.{encodeNumber, encodeNumbers}
 use borrow.Author.Needs.{needs}
 use lib.ListN.{length, getD, drop, drop-of-length-le, length-append}
 use lib.Seq.{drop-cons}
-use Rattle.trial.specs.Number.{encodeNumber, encodeNumbers}
 use Rattle.trial_writer.proofs.lists.levels_width.Statement.{statement}
 use Rattle.trial_writer.proofs.lists.levels_width.Tie as tie
 
 abbrev Inv-loop : tie.InvT-loop
 Inv-loop levels total₀ i₀ total i =
-    (i ≤ length levels) × (total ≤ 5 * i) × (total + length (encodeNumbers (drop i levels)) ≡ length (encodeNumbers levels))
+    (i ≤ length levels) × (total ≤ 10 * i) × (total + length (encodeNumbers (drop i levels)) ≡ length (encodeNumbers levels))
 
 abbrev μ-loop : tie.MeasureT-loop
 μ-loop levels total₀ i₀ total i = length levels - i

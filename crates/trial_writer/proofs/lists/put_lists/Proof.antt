@@ -1,10 +1,10 @@
 -- `put_lists` meets its contract: each list is put behind the one before, and behind the second there is left the third, if any.
 use mathlib.Core.List.{List, _++_, append-nil}
 use Prim.Native.Nat.{ℕ}
-use Rattle.trial.specs.Number.{encodeNumbers}
+use Rattle.leb128.specs.Number.{encodeNumbers}
+use Rattle.leb128.proofs.Putting.{Putting, none-put, bytes-put, all-put, last-put, room-left, room-first}
 use Rattle.trial.specs.Trial.{encodeLists}
 use Rattle.trial_writer.specs.Inner.{listsFrom}
-use Rattle.trial_writer.proofs.Putting.{Putting, none-put, bytes-put, all-put, last-put, room-left, room-first}
 use Rattle.trial_writer.proofs.Versions.{third, no-third, has-second, has-third}
 use borrow.Author.Needs.{needs}
 use Rattle.trial_writer.proofs.lists.put_lists.Statement.{statement}

@@ -7,7 +7,7 @@ use native.Mathlib.Numerals.{add-one}
 use native.Mathlib.Omega.{arith}
 use lib.ListN.{length, getD, drop, drop-of-length-le}
 use lib.Seq.{drop-cons}
-use Rattle.trial_writer.proofs.Putting.{Putting, none-put, byte-put, all-put, room-left}
+use Rattle.leb128.proofs.Putting.{Putting, none-put, byte-put, all-put, room-left}
 use Rattle.trial_writer.proofs.names.put_name.Statement.{statement}
 use Rattle.trial_writer.proofs.names.put_name.Tie as tie
 

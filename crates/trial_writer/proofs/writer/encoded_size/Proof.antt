@@ -6,7 +6,7 @@ use Prim.Native.Nat.{ℕ, _+_}
 use native.Mathlib.Omega.{arith}
 use lib.ListN.{length, length-append}
 use Rattle.poly.specs.Limits.{outside}
-use Rattle.trial.specs.Number.{encodeNumber, encodeNumbers}
+use Rattle.leb128.specs.Number.{encodeNumber, encodeNumbers}
 use Rattle.trial.specs.Trial.{trialFrom, encodeHead, encodeLists, encodeBody, encode}
 use borrow.Author.Needs.{needs}
 use Rattle.trial_writer.proofs.Versions.{third, no-third, has-second, is-two, has-third}
@@ -89,7 +89,6 @@ encoded-size-spec =
     (λ c. search needs)
     (λ c κs. search needs)
     (λ c κs. search needs)
-    (λ c. search needs)
     (λ c. search needs)
     (λ c. search needs)
     (λ c κs. search needs)

@@ -3,10 +3,10 @@ use mathlib.Core.Path.{_≡_}
 use mathlib.Core.List.{List, _++_, append-assoc}
 use Prim.Native.Nat.{ℕ}
 use lib.ListN.{length}
-use Rattle.trial.specs.Number.{encodeNumber}
+use Rattle.leb128.specs.Number.{encodeNumber}
+use Rattle.leb128.proofs.Putting.{Putting, none-put, bytes-put, part-put, last-put, room-left, room-first}
 use Rattle.trial.specs.Trial.{encodeLists, encodeBody}
 use Rattle.trial_writer.specs.Inner.{listsFrom}
-use Rattle.trial_writer.proofs.Putting.{Putting, none-put, bytes-put, last-put, room-left, room-first}
 use borrow.Author.Needs.{needs}
 use Rattle.trial_writer.proofs.writer.put_body.Statement.{statement}
 use Rattle.trial_writer.proofs.writer.put_body.Tie as tie
@@ -43,17 +43,14 @@ put₂ : (c : tie.After-put-number) →
     Putting (a .out .now) (c .put-number .last .0) (a .at) (c .put-number .result) (encodeBody (lists (entry₂ c)) (a .name .now))
     (a .name .now)
 put₂ c =
-    bytes-put (encodeNumber (length (entry₂ c .args .name .now))) (put₁ (c .before .before .before .before)) (c .put-number .ensures)
+    let start = entry₂ c in
+    part-put (encodeNumber (length (start .args .name .now))) (put₁ (c .before .before .before .before)) (start .pre .room)
+    (c .put-number .ensures)
 
 put-lists-requires : tie.Need-put-lists-requires
 put-lists-requires c κs =
     let start = c .before .before .before .before .before .before in
     (start .pre .known, room-first (encodeLists (lists start)) _ (put₀ start) (start .pre .room))
-
-put-number-requires : tie.Need-put-number-requires
-put-number-requires c κs =
-    let put = c .before .before .before in
-    room-first (encodeNumber (length (entry₁ put .args .name .now))) _ (put₁ put) (entry₁ put .pre .room)
 
 put-name-requires : tie.Need-put-name-requires
 put-name-requires c κs = let number = c .before .before .before in room-left (put₂ number) (entry₂ number .pre .room)
@@ -66,8 +63,7 @@ put-body-spec =
     tie.close
     (tie.spec
     put-lists-requires
-    (λ c. search needs)
-    put-number-requires
+    (λ c κs. search needs)
     put-name-requires
     (λ c. search needs)
     returns)

@@ -6,10 +6,10 @@ use native.Mathlib.Omega.{arith}
 use lib.ListN.{length, length-append}
 use Rattle.reply.specs.Reply.{served, unless}
 use Rattle.poly.specs.Replies.{checkedReply}
+use Rattle.leb128.proofs.Putting.{Putting, none-put, bytes-put, last-put, room-left}
 use Rattle.trial.specs.Trial.{Trial, trialFrom, encodeHead, encodeBody, encode}
 use Rattle.trial.specs.Replies.{contentCauses}
 use Rattle.trial_writer.specs.Inner.{Short}
-use Rattle.trial_writer.proofs.Putting.{Putting, none-put, bytes-put, last-put, room-left}
 use Rattle.trial_writer.proofs.Writing.{refused-write, content-refused, no-room, put-write, short}
 use borrow.Author.Needs.{needs}
 use Rattle.trial_writer.proofs.writer.write.Statement.{statement}
