@@ -1,4 +1,6 @@
 // The codes of a degree that are coprime to one of them, and whether three codes are pairwise coprime.
+#![tactic(auto)]
+
 ghost use Rattle.std.specs.Prelude.{◌≡◌, [], ◌∷◌, eqb};
 ghost use Rattle.reply.specs.Reply.{served, unless};
 ghost use Rattle.poly.specs.Causes.{common_factors};

@@ -1,4 +1,6 @@
 // Prints what the library computes, to be held against the values of tests/reference.py, which knows nothing of it.
+#![tactic(auto)]
+
 mod checks;
 mod files;
 mod lists;

@@ -10,7 +10,7 @@ use walk::{Changed, Walk};
 // Room for the longest file and some bytes behind it, which are 170 at first.
 type Bytes = [u8; 160];
 
-#[derive(Drop)]
+#[derive(Clone, Copy)]
 pub struct File {
     pub bytes: Bytes,
     pub size: usize,

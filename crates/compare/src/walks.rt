@@ -3,7 +3,7 @@ use crate::random::mixed;
 use walk::{Change, Changed, Next, Walk};
 
 // A record, and the checksum of what the calls before it answered and of the pairs that records held after them.
-#[derive(Drop)]
+#[derive(Clone, Copy)]
 pub struct Summed {
     pub walk: Walk,
     pub sum: u64,

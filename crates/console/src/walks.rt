@@ -10,7 +10,7 @@ use saved::Saved;
 use walk::{Change, Changed, Next, Walk};
 
 // What a call that changes a record returns, and the record to store where that is 0.
-#[derive(Drop)]
+#[derive(Clone, Copy)]
 struct Outcome {
     status: u32,
     walk: Walk,

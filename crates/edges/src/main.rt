@@ -1,4 +1,6 @@
 // Prints what the compiled library answers to document 01's entries on the edges, in the order of the table in specs/Table.antt.
+#![tactic(auto)]
+
 use euclid::Chained;
 use libc::STDOUT_FILENO;
 use listing::Filled;

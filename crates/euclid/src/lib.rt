@@ -1,4 +1,6 @@
 // Euclid's algorithm on codes: the chain of quotients and the greatest common divisor.
+#![tactic(auto)]
+
 ghost use Rattle.std.specs.Prelude.{◌≡◌, [], ◌∷◌, ◌≤◌, length};
 ghost use Rattle.std.proofs.lemmas.List.Edits.{sets};
 ghost use Rattle.reply.specs.Reply.{served};
@@ -11,7 +13,7 @@ use poly::{Checked, Degree};
 use reply::Refusal;
 
 // How many quotients were written, and the greatest common divisor; or why there is none.
-#[derive(Drop)]
+#[derive(Clone, Copy)]
 pub enum Chained {
     Quotients { count: usize, divisor: u32 },
     Refused(Refusal),

@@ -7,7 +7,7 @@ ghost use Rattle.leb128.specs.Inner.{parse_more};
 use reply::Refusal;
 
 // A number of the file with the position behind it, or what it is refused for.
-#[derive(Drop)]
+#[derive(Clone, Copy)]
 pub enum ReadNumber {
     Value(u64, usize),
     Refused(Refusal),

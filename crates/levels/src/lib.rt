@@ -1,4 +1,6 @@
 // Lists of levels, in which no level comes twice.
+#![tactic(auto)]
+
 ghost use Rattle.std.specs.Prelude.{false, not, [], ◌≡◌};
 ghost use Rattle.levels.specs.Levels.{not_above, any_barred, repeated, repeats};
 

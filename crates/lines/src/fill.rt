@@ -7,7 +7,7 @@ use crate::text::{copy, pair_line, put_pair};
 use listing::Filled;
 
 // How many bytes were filled, and the position behind the last line put.
-#[derive(Drop)]
+#[derive(Clone, Copy)]
 pub struct Filling {
     pub used: usize,
     pub next: u64,

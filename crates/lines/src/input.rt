@@ -5,7 +5,7 @@ ghost use Rattle.lines.specs.Input.{is_digit, asked_reply, numeral_reply, input_
 use reply::Refusal;
 
 // A degree, or why there is none.
-#[derive(Drop)]
+#[derive(Clone, Copy)]
 pub enum Asked {
     Degree(u32),
     Refused(Refusal),

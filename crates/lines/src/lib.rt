@@ -1,4 +1,6 @@
 // The list program: what its input asks for, the lines that it prints, lent bytes filled with them, and the printing itself.
+#![tactic(auto)]
+
 mod entry;
 mod fill;
 mod input;

@@ -1,4 +1,6 @@
 // The list program of document 01: reads a degree from standard input and prints the list of its coprime pairs.
+#![tactic(auto)]
+
 use libc::{STDIN_FILENO, STDOUT_FILENO};
 
 fn main() {

@@ -1,6 +1,8 @@
 // Prints what the list program prints for inputs on the edges, and for degree 6, whose list is longer than a block, to be held against
 // tests/list_reference.py. The list of degree 10 is longer than a buffer: its lines are filled in as the list program does it, and of them
 // the first and the last are printed, and a checksum of all.
+#![tactic(auto)]
+
 ghost use Rattle.std.specs.Prelude.{◌<◌};
 
 use libc::STDOUT_FILENO;

@@ -1,5 +1,7 @@
 // The pairs from a position on, many at a time. Quotient sequences that differ only in their constant terms stand side by side in the
 // list; such a group shares its heads, the quotients without their constant terms, and its words share the remainders of their beginnings.
+#![tactic(auto)]
+
 ghost use Rattle.std.specs.Prelude.{[], ◌∷◌, map, ◌≡◌, ℕ, ◌-◌, ◌*◌, ◌^◌, ◌≤◌, ◌<◌, leb, length};
 ghost use Rattle.poly.specs.Code.{add, mul};
 ghost use Rattle.pairs.specs.Words.{words_from};
@@ -13,7 +15,7 @@ use poly::{Count, Degree};
 use reply::Refusal;
 
 // How many pairs were written, or why there are none.
-#[derive(Drop)]
+#[derive(Clone, Copy)]
 pub enum Filled {
     Pairs(usize),
     Refused(Refusal),

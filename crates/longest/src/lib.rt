@@ -1,4 +1,6 @@
 // The longest chains of a degree's list: where they begin and how many there are.
+#![tactic(auto)]
+
 ghost use Rattle.std.specs.Prelude.{◌≡◌, ◌≤◌, length};
 ghost use Rattle.pairs.specs.Words.{words};
 ghost use Rattle.longest.specs.Replies.{reach_reply, longest_reply};
@@ -7,7 +9,7 @@ use poly::{Count, Degree};
 use reply::Refusal;
 
 // How many positions of the list reach the longest chains, and the first of them; or that none does, at degree 1; or why there is no list.
-#[derive(Drop)]
+#[derive(Clone, Copy)]
 pub enum Reach {
     From { count: u64, first: u64 },
     Nowhere,

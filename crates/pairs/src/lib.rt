@@ -1,4 +1,6 @@
 // The list of coprime pairs, and the pair at a position. `word_count` and `share` are public for the other calls of the list.
+#![tactic(auto)]
+
 mod division;
 mod pair;
 mod readers;

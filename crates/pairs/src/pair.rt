@@ -12,7 +12,7 @@ use poly::{Count, Degree};
 use reply::Refusal;
 
 // The two codes at a position, or why there are none.
-#[derive(Drop)]
+#[derive(Clone, Copy)]
 pub enum Found {
     Codes(u32, u32),
     Refused(Refusal),

@@ -17,7 +17,7 @@ pub fn degree_of(code: u32) -> u32
 }
 
 // What a check answers.
-#[derive(Drop)]
+#[derive(Clone, Copy)]
 pub enum Checked {
     Passed,
     Refused(Refusal),
@@ -77,7 +77,7 @@ fn times(a: u32, b: u32) -> u64
     sum
 }
 
-#[derive(Drop)]
+#[derive(Clone, Copy)]
 pub struct Divided {
     pub quotient: u32,
     pub remainder: u32,

@@ -1,4 +1,6 @@
 // Polynomials over the field of two elements as codes (document 01): bit j of a code is the coefficient of x^j.
+#![tactic(auto)]
+
 mod arithmetic;
 mod limits;
 

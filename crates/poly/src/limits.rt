@@ -5,13 +5,13 @@ ghost use Rattle.poly.specs.Replies.{count_reply, order_reply, length_reply};
 
 use reply::Refusal;
 
-#[derive(Drop)]
+#[derive(Clone, Copy)]
 pub struct Degree {
     pub n: u32,
 }
 
 // A number, or why there is none.
-#[derive(Drop)]
+#[derive(Clone, Copy)]
 pub enum Count {
     Is(u64),
     Refused(Refusal),

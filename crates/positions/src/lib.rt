@@ -1,4 +1,6 @@
 // The position of a pair. Euclid's chain gives the quotients, and these say where the pair stands in the list.
+#![tactic(auto)]
+
 mod ranks;
 
 ghost use Rattle.std.specs.Prelude.{◌≡◌, cond, map, ◌-◌, ◌≤◌, ◌<◌, length};
@@ -14,7 +16,7 @@ use ranks::rank10;
 use reply::Refusal;
 
 // The position of two codes, or why they have none.
-#[derive(Drop)]
+#[derive(Clone, Copy)]
 pub enum Place {
     At(u64),
     Refused(Refusal),
@@ -53,7 +55,7 @@ fn sequence_position(n: u32, chain: &[u32], k: usize) -> u64
     before.size + place * words + word
 }
 
-#[derive(Drop)]
+#[derive(Clone, Copy)]
 struct Before {
     size: u64,
     compositions: u32,
@@ -113,7 +115,7 @@ fn either(first: bool, a: u32, b: u32) -> u32
     if first { a } else { b }
 }
 
-#[derive(Drop)]
+#[derive(Clone, Copy)]
 struct BitsAndWord {
     bits: u32,
     word: u32,

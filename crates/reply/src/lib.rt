@@ -1,8 +1,10 @@
 // The refusals of documents 01 and 02 by name, and their numbers. New ones stand at the end.
+#![tactic(auto)]
+
 ghost use Rattle.std.specs.Prelude.{◌≡◌};
 ghost use Rattle.reply.specs.Numbers.{number_of};
 
-#[derive(Drop)]
+#[derive(Clone, Copy)]
 pub enum Refusal {
     // Caused by the console.
     DegreeRange,

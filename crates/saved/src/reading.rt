@@ -19,13 +19,13 @@ const FULL_COUNT: u64 = 1000000000000000000;
 const ANY: u64 = 18446744073709551615;
 
 // The position behind what was read, or what it is refused for.
-#[derive(Drop)]
+#[derive(Clone, Copy)]
 enum Behind {
     At(usize),
     Refused(Refusal),
 }
 
-#[derive(Drop)]
+#[derive(Clone, Copy)]
 struct Eight {
     numbers: [u64; 8],
     behind: Behind,

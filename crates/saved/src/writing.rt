@@ -61,7 +61,7 @@ fn put_walk(out: &mut [u8], walk: Walk) -> usize
 }
 
 // The length of the file, or what the record or the slice lent for it is refused for.
-#[derive(Drop)]
+#[derive(Clone, Copy)]
 pub enum Saved {
     Length(usize),
     Refused(Refusal),

@@ -1,4 +1,6 @@
 // Sheets that were made elsewhere: whether one is a Graeco-Latin square, that is, two orthogonal Latin squares laid together.
+#![tactic(auto)]
+
 ghost use Rattle.std.specs.Prelude.{◌≡◌, ◌&&◌, ◌+◌, ◌-◌, ◌*◌, ◌/◌, ◌^◌, ◌≤◌, ◌<◌, min, ltb, eqb, length, get_or};
 ghost use Rattle.poly.specs.Replies.{checked_reply};
 ghost use Rattle.squares.specs.Sheets.{shown};

@@ -1,4 +1,6 @@
 // The square of a polynomial: the symbols at a site, and the sheets that lay two squares or three together.
+#![tactic(auto)]
+
 ghost use Rattle.std.specs.Prelude.{◌≡◌, ◌+◌, ◌-◌, ◌*◌, ◌/◌, ◌%◌, ◌^◌, ◌≤◌, ◌<◌, [], ◌∷◌, ◌++◌, length, get_or, drop};
 ghost use Rattle.reply.specs.Reply.{after};
 ghost use Rattle.squares.specs.Replies.{symbols_reply, site_reply, laid_reply, sheet_of};
@@ -11,7 +13,7 @@ use poly::{Checked, Count, Degree};
 use reply::Refusal;
 
 // The symbols of f and of g at a site, or why there are none.
-#[derive(Drop)]
+#[derive(Clone, Copy)]
 pub enum Symbols {
     Both(u32, u32),
     Refused(Refusal),
@@ -40,7 +42,7 @@ pub fn site(n: u32, f: u32, g: u32, row: u32, col: u32) -> Symbols
     Symbols::Both(both.first, both.second)
 }
 
-#[derive(Drop)]
+#[derive(Clone, Copy)]
 struct Both {
     first: u32,
     second: u32,
@@ -87,7 +89,7 @@ fn swapped(x: u64, width: u32, low: u64) -> u64
 }
 
 // Whether a sheet was laid.
-#[derive(Drop)]
+#[derive(Clone, Copy)]
 pub enum Laid {
     Done,
     Refused(Refusal),

@@ -1,4 +1,6 @@
 // The format of trial files (document 01, "Trial file"), and the test of a name, which its reader and its writer share.
+#![tactic(auto)]
+
 ghost use Rattle.std.specs.Prelude.{◌≡◌, not};
 ghost use Rattle.trial.specs.Trial.{any_unprintable};
 

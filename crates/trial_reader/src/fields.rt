@@ -84,7 +84,7 @@ pub(crate) fn size_field(file: &[u8], at: usize) -> ReadNumber
 }
 
 // The codes of version 1 are f and g, and h is 0.
-#[derive(Drop)]
+#[derive(Clone, Copy)]
 pub(crate) struct Head {
     pub version: u32,
     pub degree: u32,
@@ -94,7 +94,7 @@ pub(crate) struct Head {
 }
 
 // The fields in front of the levels with the position behind them, or what the file is refused for.
-#[derive(Drop)]
+#[derive(Clone, Copy)]
 pub(crate) enum ReadHead {
     Found(Head, usize),
     Refused(Refusal),

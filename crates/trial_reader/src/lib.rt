@@ -1,4 +1,6 @@
 // The reader of trial files.
+#![tactic(auto)]
+
 mod fields;
 mod lists;
 mod names;

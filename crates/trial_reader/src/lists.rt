@@ -9,14 +9,14 @@ use levels::distinct;
 use reply::Refusal;
 
 // The position behind a list of levels, or what it is refused for.
-#[derive(Drop)]
+#[derive(Clone, Copy)]
 pub(crate) enum Behind {
     At(usize),
     Refused(Refusal),
 }
 
 // How many levels were read, and the position behind all that were asked for or what the next one is refused for.
-#[derive(Drop)]
+#[derive(Clone, Copy)]
 struct Decoded {
     read: usize,
     behind: Behind,

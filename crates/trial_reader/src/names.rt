@@ -7,7 +7,7 @@ use reply::Refusal;
 use trial::printable;
 
 // Where the name is in the file, or what it is refused for.
-#[derive(Drop)]
+#[derive(Clone, Copy)]
 pub(crate) enum ReadName {
     Found { start: usize, size: usize },
     Refused(Refusal),

@@ -13,7 +13,7 @@ use poly::{Count, Degree};
 use reply::Refusal;
 
 // An accepted file but for its levels: its head, how many levels a list has, and where the name is.
-#[derive(Drop)]
+#[derive(Clone, Copy)]
 struct Layout {
     pub head: Head,
     pub count: usize,
@@ -21,7 +21,7 @@ struct Layout {
     pub size: usize,
 }
 
-#[derive(Drop)]
+#[derive(Clone, Copy)]
 enum Verdict {
     Accepted(Layout),
     Refused(Refusal),
@@ -75,7 +75,7 @@ fn survey_body(
 }
 
 // The content of a file but for its levels: the degree, the codes, where the name is in the file, and the version. In version 1 h is 0.
-#[derive(Drop)]
+#[derive(Clone, Copy)]
 pub struct Content {
     pub degree: u32,
     pub f: u32,
@@ -86,7 +86,7 @@ pub struct Content {
     pub h: u32,
 }
 
-#[derive(Drop)]
+#[derive(Clone, Copy)]
 pub enum ReadTrial {
     Content(Content),
     Refused(Refusal),
@@ -169,7 +169,7 @@ pub fn name_part<'a>(file: &'a [u8], answer: ReadTrial) -> &'a [u8]
 }
 
 // What became of a file: the answer, and the name as the part of the file that holds it, empty where the file was refused.
-#[derive(Drop)]
+#[derive(Clone, Copy)]
 pub struct Trial<'a> {
     pub answer: ReadTrial,
     pub name: &'a [u8],

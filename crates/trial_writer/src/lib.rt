@@ -1,4 +1,6 @@
 // The writer of trial files.
+#![tactic(auto)]
+
 mod checks;
 mod lists;
 mod names;

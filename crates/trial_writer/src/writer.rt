@@ -77,7 +77,7 @@ fn put_body(
 }
 
 // The length of the file, or what the content or the slice lent for it is refused for.
-#[derive(Drop)]
+#[derive(Clone, Copy)]
 pub enum Written {
     Length(usize),
     Refused(Refusal),

@@ -1,6 +1,8 @@
 // The list of all triples of pairwise coprime codes of one degree. No greatest common divisor is computed: those coprime to a code are a
 // set in a table, by their indices; the code 2·half + 1 of degree n has the index half - 2^(n-1). A position is found by subtracting how
 // many triples begin alike.
+#![tactic(auto)]
+
 mod counts;
 
 ghost use Rattle.std.specs.Prelude.{◌≡◌, ◌-◌, ◌^◌, ◌≤◌, ◌<◌, length, get_or};
@@ -14,7 +16,7 @@ use poly::Degree;
 use reply::Refusal;
 
 // The three codes at a position; spent behind the list's end; or why there are none.
-#[derive(Drop)]
+#[derive(Clone, Copy)]
 pub enum Entry {
     Codes(u32, u32, u32),
     Spent,

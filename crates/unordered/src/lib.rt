@@ -1,4 +1,6 @@
 // The second list, in which each unordered pair stands once: the pairs at the even positions of the list.
+#![tactic(auto)]
+
 ghost use Rattle.std.specs.Prelude.{◌≡◌};
 ghost use Rattle.pairs.specs.Replies.{found_reply};
 ghost use Rattle.unordered.specs.Replies.{unordered_reply};

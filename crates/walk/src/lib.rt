@@ -1,4 +1,6 @@
 // A walk through the list of a degree: start, look, draw, set a mark, go back to one, set the next pair right.
+#![tactic(auto)]
+
 ghost use Rattle.std.specs.Prelude.{◌≡◌, false, cond, [], ◌∷◌, ◌≤◌, ltb, leb, eqb, set};
 ghost use Rattle.reply.specs.Numbers.{number_of};
 ghost use Rattle.reply.specs.Reply.{served, refused, ◌gives◌, unless};
@@ -20,7 +22,7 @@ const FULL_COUNT: u64 = 1000000000000000000;
 // that was not reached from a start by calls alone it may be anything, until a draw gives a pair, a return is served or the pair is set
 // right.
 #[repr(C)]
-#[derive(Drop)]
+#[derive(Clone, Copy)]
 pub struct Walk {
     pub degree: u32,
     pub position: u64,
@@ -31,21 +33,21 @@ pub struct Walk {
 }
 
 // What a call that gives no values answers.
-#[derive(Drop)]
+#[derive(Clone, Copy)]
 pub enum Change {
     Done,
     Refused(Refusal),
 }
 
 // What a start, the setting of a mark, going back, setting the next pair right or reading a saved walk answers, and the record after it.
-#[derive(Drop)]
+#[derive(Clone, Copy)]
 pub struct Changed {
     pub answer: Change,
     pub walk: Walk,
 }
 
 // What a look or a draw answers.
-#[derive(Drop)]
+#[derive(Clone, Copy)]
 pub enum Next {
     Codes(u32, u32),
     Spent,
@@ -53,7 +55,7 @@ pub enum Next {
 }
 
 // What a draw answers, and the record after it.
-#[derive(Drop)]
+#[derive(Clone, Copy)]
 pub struct Drawn {
     pub answer: Next,
     pub walk: Walk,

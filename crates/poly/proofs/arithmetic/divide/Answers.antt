@@ -1,5 +1,3 @@
--- `divide` meets its contract. The invariant: quotient times b plus remainder is a. A turn adds the same multiple of b to both sides and
--- clears the remainder's leading term; at the end the remainder is small, and division is unique.
 use mathlib.Core.Path.{◌≡◌, sym, ap, ◌∙◌}
 use Prim.Native.Nat.{ℕ, suc, ◌+◌, ◌-◌, ◌*◌, ◌/◌, ◌%◌, ◌^◌, ◌≤◌, ◌<◌}
 use native.Mathlib.Nat.{le_refl, pos_of_ne-zero, lt_of_lt_of_le, lt_trans}
@@ -16,11 +14,8 @@ use Rattle.poly.proofs.Leading
 use Rattle.poly.proofs.Division.{divide_is}
 use Rattle.poly.proofs.Binary.{add_xor, leads_cancel}
 use Rattle.poly.proofs.Primes.{inverses_2}
-use Rattle.poly.proofs.arithmetic.divide.Statement.{statement}
-use Rattle.poly.proofs.arithmetic.divide.Tie as tie
-
-abbrev zeros : ℕ → ℕ
-zeros a = count_leading_zeros 32 a
+use Rattle.poly.proofs.arithmetic.divide.Invariants.{limit, zeros}
+use Rattle.poly.proofs.arithmetic.divide.Goals as goal
 
 -- b of degree n and the remainder of degree s + n
 record Place (b r s : ℕ) : Type 0 where
@@ -29,10 +24,6 @@ record Place (b r s : ℕ) : Type 0 where
   remainder : HasDegree 2 (s + n) r
   shift : s + zeros r ≡ zeros b
   fits : suc (s + n) ≤ 32
-
--- the code's limit: at most that are the codes of lower degree than b
-abbrev limit : ℕ → ℕ
-limit b = 2147483647 / 2 ^ zeros b
 
 limit_is : (b j : ℕ) → zeros b + suc j ≡ 32 → limit b ≡ 2 ^ j - 1
 limit_is b j e =
@@ -95,69 +86,47 @@ ends a b q r pos hb h sum =
     let (eq, er) = divide_is 2 (le_refl 2) inverses_2 (record { low = least; high = most }) (record { sum = sum; small = small }) in
     λ i. record { quotient = eq i; remainder = er i }
 
-abbrev invariant-loop : tie.invariant-loop
-invariant-loop a b quotient₀ remainder₀ zeros limit quotient remainder = (remainder < 2 ^ 32) × (add 2 (mul 2 quotient b) remainder ≡ a)
-
-abbrev decreases-loop : tie.decreases-loop
-decreases-loop a b quotient₀ remainder₀ zeros limit quotient remainder = remainder
-
-returns : tie.Need-returns invariant-loop decreases-loop
+pub returns-then-b-eq0 : goal.returns-then-b-eq0
 unfolding divide
-returns c = rw c.if1.true
+returns-then-b-eq0 c = rw c.if-b-eq0.true
 
-returns-2 : tie.Need-returns-2 invariant-loop decreases-loop
-returns-2 c =
-    ends c.before.before.before.args.a c.before.before.before.args.b c.before.loop.quotient
-    c.before.loop.remainder (pos_of_ne-zero c.before.before.if1.false) c.before.before.before.ranges.b.fits
-    c.loop-test.false c.before.loop.invariant.1
+pub returns : goal.returns
+returns c =
+    ends c.args.a c.args.b c.loop-remainder.quotient
+    c.loop-remainder.remainder (pos_of_ne-zero c.if-b-eq0.false) c.ranges.b.fits
+    c.loop-remainder-test.false c.loop-remainder.invariant.1
 
-shr-limit : tie.Need-overflow-shr-limit invariant-loop decreases-loop
-shr-limit c =
-    let (j, e, _, _) = leading_top 32 c.before.args.b (pos_of_ne-zero c.if1.false) c.before.ranges.b.fits in
+pub overflow_shr-limit : goal.overflow_shr-limit
+overflow_shr-limit c =
+    let (j, e, _, _) = leading_top 32 c.args.b (pos_of_ne-zero c.if-b-eq0.false) c.ranges.b.fits in
     omega arith
 
-loop-holds : tie.Need-loop-init invariant-loop decreases-loop
-loop-holds c = (
-  c.before.ranges.a.fits,
-  rw (Ring.mul_zero_left 2 (le_refl 2) c.before.args.b) (Ring.add_zero_left 2 (le_refl 2) c.before.args.a),
+pub loop-remainder-init : goal.loop-remainder-init
+loop-remainder-init c = (
+  c.ranges.a.fits,
+  rw (Ring.mul_zero_left 2 (le_refl 2) c.args.b) (Ring.add_zero_left 2 (le_refl 2) c.args.a),
 )
 
-here : (c : tie.In-loop invariant-loop decreases-loop) → Place c.before.before.before.args.b c.before.loop.remainder
-    (zeros c.before.before.before.args.b - zeros c.before.loop.remainder)
+here : (c : goal.In-loop-remainder) → Place c.args.b c.loop-remainder.remainder
+    (zeros c.args.b - zeros c.loop-remainder.remainder)
 here c =
-    place c.before.before.before.args.b c.before.loop.remainder (pos_of_ne-zero c.before.before.if1.false)
-    c.before.before.before.ranges.b.fits c.before.loop.invariant.0 c.loop-test.true
+    place c.args.b c.loop-remainder.remainder (pos_of_ne-zero c.if-b-eq0.false)
+    c.ranges.b.fits c.loop-remainder.invariant.0 c.loop-remainder-test.true
 
-sub-shift : tie.Need-overflow-sub-shift invariant-loop decreases-loop
-sub-shift c = omega (arith, (here c).shift)
+pub overflow_sub-shift : goal.overflow_sub-shift
+overflow_sub-shift c = omega (arith, (here c).shift)
 
-shl-quotient : tie.Need-overflow-shl-quotient invariant-loop decreases-loop
-shl-quotient c = omega (arith, (here c).ranges)
+pub overflow_shl-quotient : goal.overflow_shl-quotient
+overflow_shl-quotient c = omega (arith, (here c).fits)
 
-shl-remainder : tie.Need-overflow-shl-remainder invariant-loop decreases-loop
-shl-remainder c = omega (arith, (here c).ranges)
+pub overflow_shl-remainder : goal.overflow_shl-remainder
+overflow_shl-remainder c = omega (arith, (here c).fits)
 
-loop-less : tie.Need-loop-smaller invariant-loop decreases-loop
-loop-less c = falls (here c)
+pub loop-remainder-smaller : goal.loop-remainder-smaller
+loop-remainder-smaller c = falls (here c)
 
-loop-again : tie.Need-loop-preserved invariant-loop decreases-loop
-loop-again c = (
-  lt_trans (falls (here c)) c.before.loop.invariant.0,
-  stays (here c) c.before.before.before.args.a c.before.loop.quotient c.before.loop.invariant.1,
+pub loop-remainder-preserved : goal.loop-remainder-preserved
+loop-remainder-preserved c = (
+  lt_trans (falls (here c)) c.loop-remainder.invariant.0,
+  stays (here c) c.args.a c.loop-remainder.quotient c.loop-remainder.invariant.1,
 )
-
-pub divide-spec : {M : Type 1} → statement M
-divide-spec =
-    tie.close
-    (tie.spec
-    invariant-loop
-    decreases-loop
-    returns
-    shr-limit
-    loop-holds
-    sub-shift
-    shl-quotient
-    shl-remainder
-    loop-less
-    loop-again
-    returns-2)

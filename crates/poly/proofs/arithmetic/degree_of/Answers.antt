@@ -6,8 +6,7 @@ use native.Mathlib.Omega.{arith}
 use lib.Count.{count_leading_zeros, leading_top}
 use Rattle.poly.specs.Code.{degree}
 use Rattle.poly.proofs.Leading.{degree_is}
-use Rattle.poly.proofs.arithmetic.degree_of.Statement.{statement}
-use Rattle.poly.proofs.arithmetic.degree_of.Tie as tie
+use Rattle.poly.proofs.arithmetic.degree_of.Goals as goal
 
 top : (a : ℕ) → 0 < a → a < 2 ^ 32 → (count_leading_zeros 32 a ≤ 31) × (31 - count_leading_zeros 32 a ≡ degree 2 a)
 top a pos fits =
@@ -15,15 +14,12 @@ top a pos fits =
     let is : degree 2 a ≡ j = degree_is 2 (le_refl 2) (record { low = low; high = high }) in
     (omega arith, omega arith)
 
-returns : tie.Need-returns
+pub returns-then-code-eq0 : goal.returns-then-code-eq0
 unfolding degree
-returns c = sym (ap (degree 2) c.if1.true)
+returns-then-code-eq0 c = sym (ap (degree 2) c.if-code-eq0.true)
 
-sub-result : tie.Need-overflow-sub-result
-sub-result c = (top c.before.args.code (pos_of_ne-zero c.if1.false) c.before.ranges.code.fits).0
+pub overflow_sub-result : goal.overflow_sub-result
+overflow_sub-result c = (top c.args.code (pos_of_ne-zero c.if-code-eq0.false) c.ranges.code.fits).0
 
-returns-2 : tie.Need-returns-2
-returns-2 c = (top c.before.args.code (pos_of_ne-zero c.if1.false) c.before.ranges.code.fits).1
-
-pub degree-of-spec : {M : Type 1} → statement M
-degree-of-spec = tie.close (tie.spec returns sub-result returns-2)
+pub returns : goal.returns
+returns c = (top c.args.code (pos_of_ne-zero c.if-code-eq0.false) c.ranges.code.fits).1

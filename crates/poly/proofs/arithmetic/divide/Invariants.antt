@@ -1,0 +1,32 @@
+-- `divide` meets its contract. The invariant: quotient times b plus remainder is a. A turn adds the same multiple of b to both sides and
+-- clears the remainder's leading term; at the end the remainder is small, and division is unique.
+use mathlib.Core.Path.{◌≡◌, sym, ap, ◌∙◌}
+use Prim.Native.Nat.{ℕ, suc, ◌+◌, ◌-◌, ◌*◌, ◌/◌, ◌%◌, ◌^◌, ◌≤◌, ◌<◌}
+use native.Mathlib.Nat.{le_refl, pos_of_ne-zero, lt_of_lt_of_le, lt_trans}
+use native.Mathlib.Omega.{arith}
+use lib.Dec.{lit<}
+use lib.Bits.{bit_xor}
+use lib.Count.{count_leading_zeros, leading_top}
+use lib.Pow.{pow-lt, shl_exact, high, ones_lt, ones_split, lt_of_le_ones}
+use Rattle.poly.specs.Code.{add, mul, HasDegree}
+use Rattle.poly.specs.Division.{divide}
+use Rattle.poly.proofs.Ring
+use Rattle.poly.proofs.Blocks
+use Rattle.poly.proofs.Leading
+use Rattle.poly.proofs.Division.{divide_is}
+use Rattle.poly.proofs.Binary.{add_xor, leads_cancel}
+use Rattle.poly.proofs.Primes.{inverses_2}
+use Rattle.poly.proofs.arithmetic.divide.Given as goal
+
+abbrev pub zeros : ℕ → ℕ
+zeros a = count_leading_zeros 32 a
+
+-- the code's limit: at most that are the codes of lower degree than b
+abbrev pub limit : ℕ → ℕ
+limit b = 2147483647 / 2 ^ zeros b
+
+abbrev pub invariant-loop-remainder : goal.invariant-loop-remainder
+invariant-loop-remainder l = (l.remainder < 2 ^ 32) × (add 2 (mul 2 l.quotient l.b) l.remainder ≡ l.a)
+
+abbrev pub decreases-loop-remainder : goal.decreases-loop-remainder
+decreases-loop-remainder l = l.remainder
