@@ -18,8 +18,7 @@ use Rattle.poly.proofs.Primes.{inverses_2}
 use Rattle.euclid.specs.Chain.{chain}
 use Rattle.euclid.specs.Replies.{chain_reply, chain_content}
 use Rattle.euclid.proofs.Chains.{chain_length}
-use Rattle.euclid.proofs.quotients.Statement.{statement}
-use Rattle.euclid.proofs.quotients.Tie as tie
+use Rattle.euclid.proofs.quotients.Goals as goal
 
 module _ (n f g : ℕ) (out : List ℕ) where
   abbrev qs : List ℕ
@@ -50,69 +49,36 @@ module _ (n f g : ℕ) (out : List ℕ) where
             sets-eq qs out 0 (omega arith) ∙ rw zero-add (sym (ap (λ (r : Reply). after r (qs ++ drop (length qs) out) out) e)),
           )
 
-outside-requires : tie.Need-outside-requires
-outside-requires c κs = search rules
+pub returns-then-outside : goal.returns-then-outside
+returns-then-outside c =
+    let a = c.args in
+    let r = refuses a.n a.f a.g a.out.now {k = 1} (rw (sym c.outside.ensures ∙ c.if-outside.true)) in
+    record { reply = r.0; content = r.1 }
 
-returns : tie.Need-returns
-returns c =
-    let a = c.before.before.before.args in
-    refuses a.n a.f a.g a.out.now (rw (sym c.before.outside.ensures ∙ c.if1.true))
+pub returns-in-Refused : goal.returns-in-Refused
+returns-in-Refused c =
+    let a = c.args in
+    let r = bad-code a.n a.f a.g a.out.now (sym c.outside.ensures ∙ c.if-outside.false)
+    (sym (ap checked_reply c.in-Refused.is) ∙ c.check_pair-checked.ensures) in
+    record { reply = r.0; content = r.1 }
 
-check-pair-requires : tie.Need-check-pair-requires
-check-pair-requires c κs = search rules
+pub returns-then-out-lt32 : goal.returns-then-out-lt32
+returns-then-out-lt32 c =
+    let a = c.args in
+    let r = short a.n a.f a.g a.out.now (sym c.outside.ensures ∙ c.if-outside.false)
+    (sym (ap checked_reply c.in_default.is) ∙ c.check_pair-checked.ensures) (omega arith) in
+    record { reply = r.0; content = r.1 }
 
-enum-known-checked : tie.Need-enum-known-checked
-enum-known-checked c = search rules
-
-returns-2 : tie.Need-returns-2
-returns-2 c =
-    let start = c.before.before.before.before.before.before.before in
-    let a = start.args in
-    let checked = c.before.before.before in
-    bad-code a.n a.f a.g a.out.now (sym checked.before.before.outside.ensures ∙ checked.before.if1.false)
-    (sym (ap checked_reply c.before.checked.given.1) ∙ checked.check-pair.ensures)
-
-enum_told : tie.Need-enum-told
-enum_told c = search rules
-
-returns-3 : tie.Need-returns-3
-returns-3 c =
-    let a = c.before.before.before.before.before.before.before.args in
-    let checked = c.before.before.before in
-    short a.n a.f a.g a.out.now (sym checked.before.before.outside.ensures ∙ checked.before.if1.false)
-    (sym (ap checked_reply c.before.enum_told.given.1) ∙ checked.check-pair.ensures) (omega arith)
-
-divisions-requires : tie.Need-divisions-requires
-divisions-requires c κs =
-    let a = c.before.before.before.before.before.before.before.before.args in
+pub divisions-requires : goal.divisions-requires
+divisions-requires c =
+    let a = c.args in
     omega (arith, chain_length 2 (le_refl 2) inverses_2 a.f a.g 32 (search rules))
 
-same_length : tie.Need-same-length
-same_length c = search rules
-
-returns-4 : tie.Need-returns-4
-returns-4 c =
-    let left = c.before.before.before.before in
-    let checked = left.before.before.before in
-    let start = checked.before.before.before.before in
-    let a = start.args in
-    let (replied, written) = c.before.before.divisions.ensures in
-    let (reply, content) = done a.n a.f a.g a.out.now
-    (sym checked.before.before.outside.ensures ∙ checked.before.if1.false)
-    (sym (ap checked_reply left.before.enum_told.given.1) ∙ checked.check-pair.ensures) left.if2.false start.ranges.g.fits in
-    (replied ∙ reply, written ∙ content)
-
-pub quotients-spec : {M : Type 1} → statement M
-quotients-spec =
-    tie.close
-    (tie.spec
-    outside-requires
-    returns
-    check-pair-requires
-    enum-known-checked
-    returns-2
-    enum_told
-    returns-3
-    divisions-requires
-    same_length
-    returns-4)
+pub returns : goal.returns
+returns c =
+    let a = c.args in
+    let d = c.divisions.ensures in
+    let r = done a.n a.f a.g a.out.now
+    (sym c.outside.ensures ∙ c.if-outside.false)
+    (sym (ap checked_reply c.in_default.is) ∙ c.check_pair-checked.ensures) c.if-out-lt32.false c.ranges.g.fits in
+    record { reply = d.reply ∙ r.0; content = d.written ∙ r.1 }
