@@ -1,6 +1,5 @@
 -- `ninth_end` meets its contract: the test says which is less.
 use native.Mathlib.Omega.{arith}
-use borrow.Author.Rules.{rules}
 use Rattle.leb128.proofs.reading.ninth_end.Goals as goal
 
 pub returns-then-file-at-lt8 : goal.returns-then-file-at-lt8

@@ -4,8 +4,8 @@ use native.Mathlib.Nat.{mul-le-mul_left}
 use native.Mathlib.Decide.{dec_lt, ℕ_discrete}
 use lib.Dec.{lit≤, lit<}
 use native.Mathlib.Omega.{arith}
-use borrow.Author.Rules.{rules}
-use lib.ListN.{length, drop}
+use mathlib.Core.List.{List}
+use lib.ListN.{length, get_or, drop}
 use Rattle.leb128.specs.Parser.{failed}
 use Rattle.leb128.specs.Number.{parse_groups}
 use Rattle.leb128.specs.Inner.{parse_more}
@@ -27,140 +27,90 @@ loop-next-init c =
           }),
     )
 
--- A turn: the byte is one of the file's, and of the first nine.
-module _ (c : goal.In-loop-next) where
-  abbrev entry : tie.Start invariant-loop decreases-loop
-  entry = c
-
-  abbrev so_far : let a = entry.args in let s = c.loop-next in
-      SoFar a.file.now a.at a.low s.value s.unit s.next (a.at + 8 - s.next)
-  so_far = c.loop-next.invariant.2
-
-  there : c.loop-next.next < length entry.args.file.now
-  there = omega (arith, c.loop-next-test.true, c.ninth_end-end.ensures)
-
-  more : 0 < entry.args.at + 8 - c.loop-next.next
-  more = omega (arith, c.loop-next-test.true, c.ninth_end-end.ensures)
-
-  unit-low : c.loop-next.unit ≤ 72057594037927936
-  unit-low = unit_fits so_far more
-
-  fits : (group : ℕ) → group < 128 → c.loop-next.value + c.loop-next.unit * group < c.loop-next.unit * 128
-  fits = group_fits so_far
-
-pub bounds-file-next : goal.bounds-file-next
-bounds-file-next c = there c
-
-pub overflow_add-next : goal.overflow_add-next
-overflow_add-next c = let l = there c in omega arith
+-- In a turn: the next unit is not too large, and a group more stays below it.
+turn_fits : {file : List ℕ} {at low value unit next left : ℕ} → SoFar file at low value unit next left → 0 < left
+    → (group : ℕ) → group < 128 → (unit ≤ 72057594037927936) × (value + unit * group < unit * 128)
+turn_fits s more group h = (unit_fits s more, group_fits s group h)
 
 pub returns-then-byte-eq0 : goal.returns-then-byte-eq0
 returns-then-byte-eq0 c =
     let none = sym c.wide-byte.ensures ∙ c.if-byte-eq0.true in
-    record { says = sym (needless (so_far c) (there c) none); inside = tt }
+    record { says = sym (needless c.loop-next.invariant.2 (omega arith) none); inside = tt }
 
 pub overflow_mul-result : goal.overflow_mul-result
-overflow_mul-result c =
-    omega (arith, unit-low c, fits c c.wide-byte.result (omega arith))
+overflow_mul-result c = omega (arith, turn_fits c.loop-next.invariant.2 (omega arith) c.wide-byte.result (omega arith))
 
 pub overflow_add-result : goal.overflow_add-result
-overflow_add-result c =
-    omega (arith, unit-low c, fits c c.wide-byte.result (omega arith))
+overflow_add-result c = omega (arith, turn_fits c.loop-next.invariant.2 (omega arith) c.wide-byte.result (omega arith))
 
 pub returns-then-byte-lt128 : goal.returns-then-byte-lt128
 returns-then-byte-lt128 c =
+    let s = c.loop-next.invariant.2 in
     let w = c.wide-byte in
-    let low = unit-low c in
-    let sum = fits c w.result (omega arith) in
-    let l = there c in
+    let fits = turn_fits s (omega arith) w.result (omega arith) in
     record {
-      says = sym (total (so_far c) w.result (there c) (sym w.ensures) c.if-byte-eq0.false c.if-byte-lt128.true (omega arith));
+      says = sym (total s w.result (omega arith) (sym w.ensures) c.if-byte-eq0.false c.if-byte-lt128.true (omega arith));
       inside = omega arith;
     }
 
 pub overflow_mul-value : goal.overflow_mul-value
-overflow_mul-value c =
-    omega (arith, unit-low c, fits c (c.wide-byte.result % 128) (omega arith))
+overflow_mul-value c = omega (arith, turn_fits c.loop-next.invariant.2 (omega arith) (c.wide-byte.result % 128) (omega arith))
 
 pub overflow_add-value : goal.overflow_add-value
-overflow_add-value c =
-    omega (arith, unit-low c, fits c (c.wide-byte.result % 128) (omega arith))
+overflow_add-value c = omega (arith, turn_fits c.loop-next.invariant.2 (omega arith) (c.wide-byte.result % 128) (omega arith))
 
 pub overflow_mul-unit : goal.overflow_mul-unit
-overflow_mul-unit c = omega (arith, unit-low c)
-
-pub loop-next-smaller : goal.loop-next-smaller
-loop-next-smaller c = let l = c.loop-next-test.true in omega arith
+overflow_mul-unit c = omega (arith, turn_fits c.loop-next.invariant.2 (omega arith) 0 (lit< tt))
 
 pub loop-next-preserved : goal.loop-next-preserved
 loop-next-preserved c =
     let w = c.wide-byte in
-    let a = (entry c).args in
+    let a = c.args in
     let next = c.loop-next.next in
-    let l = c.loop-next-test.true in
     let less : a.at + 8 - next - 1 ≡ a.at + 8 - (next + 1) = omega arith in (
       omega arith,
       omega arith,
-      rw less c (turn (so_far c) (more c) w.result (there c) (sym w.ensures) c.if-byte-lt128.false),
+      rw less at (turn c.loop-next.invariant.2 (omega arith) w.result (omega arith) (sym w.ensures) c.if-byte-lt128.false),
     )
 
 pub returns-then-file-next : goal.returns-then-file-next
 returns-then-file-next c = record { says = sym (ends c.loop-next.invariant.2 c.if-file-next.true); inside = tt }
 
-pub bounds-file-next-2 : goal.bounds-file-next-2
-bounds-file-next-2 c = omega arith
-
 -- Behind the loop: the tenth byte, and what it is.
-module _ (c : goal.After-wide-last) where
-  abbrev end : tie.At-loop invariant-loop decreases-loop
-  end = c
-
-  abbrev start : tie.Start invariant-loop decreases-loop
-  start = end.before.before.before
-
-  abbrev nine : let a = start.args in let s = end.loop in
-      SoFar a.file.now a.at a.low s.value s.unit s.next (a.at + 8 - s.next)
-  nine = end.loop.inv.2
-
-  none : start.args.at + 8 - end.loop.next ≤ 0
-  none = omega (arith, c.loop-next-test.false, c.if-file-next.false, end.before.ninth-end.ensures)
-
-  unit-is : end.loop.unit ≡ 9223372036854775808
-  unit-is = unit_last nine none
-
-  refused-last : (c.wide-last.result ≡ 1 → ⊥) → parse_more start.args.low (drop start.args.at start.args.file.now) ≡ failed 10
+module _ {file : List ℕ} {at low value unit next left : ℕ} (nine : SoFar file at low value unit next left) (none : left ≤ 0)
+    (tenth : next < length file) (byte : ℕ) (is : get_or file next 0 ≡ byte) where
+  refused-last : (byte ≡ 1 → ⊥) → parse_more low (drop at file) ≡ failed 10
   refused-last other =
-      let tenth = c.if-file-next.false in
-      let byte : ℕ = c.wide-last.result in
-      let is = sym c.wide-last.ensures in
       elim (dec_lt byte 128) [
         | no large ↦ long nine none byte tenth is (omega arith)
         | yes small ↦ elim (ℕ_discrete byte 0) [
           | yes needless-byte ↦ needless nine tenth (is ∙ needless-byte)
           | no some ↦
-              let twice : end.loop.unit * 2 ≤ end.loop.unit * byte = mul-le-mul_left end.loop.unit (omega arith) in
-              too_high nine byte tenth is some small (omega (arith, unit-is))
+              let twice : unit * 2 ≤ unit * byte = mul-le-mul_left unit (omega arith) in
+              too_high nine byte tenth is some small (omega (arith, unit_last nine none))
         ]
       ]
 
 pub returns-then-last-ne1 : goal.returns-then-last-ne1
-returns-then-last-ne1 c = record { says = sym (refused-last c c.if-last-ne1.true); inside = tt }
+returns-then-last-ne1 c =
+    let last = c.wide-last in
+    record {
+      says = sym (refused-last c.loop-next.invariant.2 (omega arith) c.if-file-next.false last.result (sym last.ensures) c.if-last-ne1.true);
+      inside = tt;
+    }
 
 pub overflow_add-result-2 : goal.overflow_add-result-2
-overflow_add-result-2 c = omega (arith, unit-is c, (nine c).small)
-
-pub overflow_add-result-3 : goal.overflow_add-result-3
-overflow_add-result-3 c = omega arith
+overflow_add-result-2 c = let nine = c.loop-next.invariant.2 in omega (arith, unit_last nine (omega arith), nine.small)
 
 pub returns : goal.returns
 returns c =
+    let nine = c.loop-next.invariant.2 in
     let tenth = c.if-file-next.false in
     let is = sym c.wide-last.ensures ∙ c.if-last-ne1.false in
-    let once : (end c).loop.unit * 1 ≡ (end c).loop.unit = omega arith in
+    let unit = c.loop-next.unit in
+    let unit-is : unit ≡ 9223372036854775808 = unit_last nine (omega arith) in
+    let once : unit * 1 ≡ unit = omega arith in
     record {
-      says = sym (rw once c (total (nine c) 1 tenth is (λ e. omega arith) (lit< tt) (omega (arith, unit-is c, (nine c).small))));
+      says = sym (rw once at (total nine 1 tenth is (λ e. omega arith) (lit< tt) (omega (arith, unit-is, nine.small))));
       inside = omega arith;
     }
-
-pub ninth_end-end-requires : goal.ninth_end-end-requires
-ninth_end-end-requires c = c.requires.1

@@ -5,7 +5,6 @@ use lib.Dec.{lit<}
 use borrow.Author.Tests.{le-ltb}
 use Rattle.leb128.specs.Number.{parse_number}
 use Rattle.leb128.proofs.Groups.{groups_end, groups_last, groups_more}
-use borrow.Author.Rules.{rules}
 use Rattle.leb128.proofs.reading.read_number.Goals as goal
 
 pub returns-then-file-at : goal.returns-then-file-at

@@ -1,11 +1,6 @@
 -- `put_groups` meets its contract: what is left to put is the encoding of what is left of the number.
-use mathlib.Core.Path.{refl}
-use mathlib.Core.List.{[], ◌∷◌}
-use Prim.Native.Nat.{◌+◌, ◌/◌, ◌%◌}
-use native.Mathlib.Omega.{arith}
 use Rattle.leb128.specs.Number.{encode_number}
-use Rattle.leb128.proofs.Number.{encode_small, encode_step}
-use Rattle.leb128.proofs.Putting.{Putting, none_put, byte_put, all_put, room_left}
+use Rattle.leb128.proofs.Putting.{Putting}
 use Rattle.leb128.proofs.writing.put_groups.Given as goal
 
 abbrev pub invariant-loop-left : goal.invariant-loop-left
