@@ -183,10 +183,7 @@ lists_same order (suc count) bytes {lists} {rest} below e =
     (record {
       many = ap suc t.many;
       low = elim [ zero ↦ rw f.whole at f.low | suc k ↦ t.low k ];
-      whole = λ k. elim k [
-        | zero ↦ λ h. this
-        | suc k ↦ λ h. t.whole k (omega arith)
-      ];
+      whole = elim [ zero ↦ λ h. this | suc k ↦ λ h. t.whole k (omega arith) ];
       same = rw (append_assoc, t.same) same;
     })
 

@@ -4,7 +4,7 @@
 use mathlib.Core.Bool.{Bool, true, false, not, ◌||◌}
 use mathlib.Core.Logic.{◌≢◌}
 use mathlib.Core.Path.{◌≡◌, refl, sym, ◌∙◌}
-use Prim.Native.Nat.{ℕ, zero, suc, ◌^◌, ◌≤◌}
+use Prim.Native.Nat.{ℕ, ◌^◌, ◌≤◌}
 use mathlib.Core.List.{List, [], ◌∷◌, ◌++◌, append_assoc, append-nil}
 use native.Mathlib.Decide.{dec_lt, ℕ_discrete}
 use native.Mathlib.Omega.{arith}
@@ -20,11 +20,11 @@ use Rattle.leb128.specs.Parser.{Parser, parsed, failed, pure, resume, ◌>>=◌,
 use Rattle.leb128.specs.Number.{limits64, number, field}
 use Rattle.leb128.proofs.Parser.{either, checked_twice}
 use Rattle.trial.specs.Rules.{today}
-use Rattle.trial.specs.Levels.{level_causes, parse_levels}
+use Rattle.trial.specs.Levels.{parse_levels}
 use Rattle.trial.specs.Trial.{Head, Trial, trial_from, encode_head, encode_body, encode, degree_causes, parse_coprime, parse_head}
 use Rattle.trial.specs.Trial.{parse_name, parse_body, parse}
 use Rattle.trial.specs.Replies.{read, name_causes, content_causes, room_causes, write_reply}
-use Rattle.trial.specs.Before.{before, second_causes, body_before, codes_before, parse_before, read_before, encode_before}
+use Rattle.trial.specs.Before.{second_causes, body_before, codes_before, parse_before, read_before, encode_before}
 use Rattle.trial.specs.Claims.{UnchangedClaim, BeforeClaim}
 
 holds_or_not : {C : Type 0} (b : Bool) → (b ≡ true → C) → (b ≡ false → C) → C
@@ -34,24 +34,13 @@ holds_or_not false yes_case no_case = no_case refl
 abbrev head_before : ℕ → ℕ → ℕ → Head
 head_before n f g = record { version = 1; degree = n; codes = f ∷ g ∷ [] }
 
--- The rules for levels were the same, and here numbers are today's.
-levels_before : (count : ℕ) (earlier bytes : List ℕ) → parse_levels today count earlier bytes ≡ parse_levels before count earlier bytes
-levels_before zero earlier bytes = refl
-levels_before (suc count) earlier bytes =
-    either (field limits64 (level_causes today earlier) bytes)
-    (λ level rest e. rw e (levels_before count (level ∷ earlier) rest))
-    (λ k e. rw e)
-
+-- The rules for levels were the same, and here numbers are today's: the lists are read by one and the same parser.
 body_before_lem : (n f g : ℕ) (bytes : List ℕ) → parse_body today (head_before n f g) bytes ≡ body_before n f g bytes
 unfolding parse_body parse_name
 body_before_lem n f g bytes =
     either (parse_levels today (2 ^ n) [] bytes)
-    (λ powers r₁ e₁.
-    let b₁ = sym (levels_before (2 ^ n) [] bytes) ∙ e₁ in
-    either (parse_levels today (2 ^ n) [] r₁)
-    (λ forces r₂ e₂. let b₂ = sym (levels_before (2 ^ n) [] r₁) ∙ e₂ in rw (e₁, b₁, e₂, b₂))
-    (λ k e₂. let b₂ = sym (levels_before (2 ^ n) [] r₁) ∙ e₂ in rw (e₁, b₁, e₂, b₂)))
-    (λ k e₁. let b₁ = sym (levels_before (2 ^ n) [] bytes) ∙ e₁ in rw (e₁, b₁))
+    (λ powers r₁ e₁. either (parse_levels today (2 ^ n) [] r₁) (λ forces r₂ e₂. rw (e₁, e₂)) (λ k e₂. rw (e₁, e₂)))
+    (λ k e₁. rw e₁)
 
 codes_before_lem : (n : ℕ) (bytes : List ℕ) → (parse_coprime today 1 n >>= parse_body today) bytes ≡ codes_before n bytes
 unfolding parse_coprime
