@@ -1,0 +1,29 @@
+-- `triple_at` meets its contract: the degree is judged first, then the position.
+use mathlib.Core.Path.{sym, ◌∙◌}
+use borrow.Author.Tests.{lt-ltb, le-ltb}
+use Rattle.poly.proofs.Ranges.{within}
+use Rattle.triples.specs.Replies.{triple_at_reply}
+use Rattle.triples.proofs.triple_at.Goals as goal
+
+pub returns-then-outside_sheets : goal.returns-then-outside_sheets
+unfolding triple_at_reply
+returns-then-outside_sheets c = rw (sym c.outside_sheets.ensures ∙ c.if-outside_sheets.true)
+
+pub all-requires : goal.all-requires
+all-requires c =
+    let (low, high) = within 2 6 (sym c.outside_sheets.ensures ∙ c.if-outside_sheets.false) in
+    record { le_n = low; n_bound = high }
+
+pub returns-then-all-position : goal.returns-then-all-position
+unfolding triple_at_reply
+returns-then-all-position c = rw (sym c.outside_sheets.ensures ∙ c.if-outside_sheets.false, le-ltb _ _ (rw c.all.ensures at c.if-all-position.true))
+
+pub seek-requires : goal.seek-requires
+seek-requires c =
+    let (low, high) = within 2 6 (sym c.outside_sheets.ensures ∙ c.if-outside_sheets.false) in
+    record { le_n = low; n_bound = high; position_in_bounds = rw c.all.ensures at c.if-all-position.false }
+
+pub returns : goal.returns
+unfolding triple_at_reply
+returns c =
+    rw (sym c.outside_sheets.ensures ∙ c.if-outside_sheets.false, lt-ltb _ _ (rw c.all.ensures at c.if-all-position.false)) c.seek.ensures
