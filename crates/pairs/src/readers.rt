@@ -5,7 +5,7 @@ ghost use Rattle.std.specs.Prelude.{[], ◌≡◌, ◌≤◌, ◌<◌, length, g
 ghost use Rattle.pairs.specs.Words.{s10, s11, s01, words_from, as_number};
 
 // The word at index i of the `count` words of m letters that lead from (1,0) to (1,0). Those that begin with 0 come first.
-#[cycle(from01_from10_from11)]
+#[cycle(readers)]
 pub(crate) fn from10(m: u32, i: u64, count: u64) -> u32
     requires m_bound { m ≤ 31 }
     requires count_value { count ≡ length (words_from s10 m) }
@@ -25,7 +25,7 @@ pub(crate) fn from10(m: u32, i: u64, count: u64) -> u32
 }
 
 // The same from (1,1).
-#[cycle(from01_from10_from11)]
+#[cycle(readers)]
 fn from11(m: u32, i: u64, count: u64) -> u32
     requires m_bound { m ≤ 31 }
     requires count_value { count ≡ length (words_from s11 m) }
@@ -41,7 +41,7 @@ fn from11(m: u32, i: u64, count: u64) -> u32
 }
 
 // The same from (0,1): either letter goes to (1,0), so that no branch is needed.
-#[cycle(from01_from10_from11)]
+#[cycle(readers)]
 fn from01(m: u32, i: u64, count: u64) -> u32
     requires m_bound { m ≤ 31 }
     requires count_value { count ≡ length (words_from s01 m) }

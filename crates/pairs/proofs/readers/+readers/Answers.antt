@@ -1,11 +1,9 @@
--- The three readers meet their contracts: the index tells the first letter, and the next state's reader has one letter less.
 use mathlib.Core.Bool.{true, false}
 use mathlib.Core.Path.{◌≡◌, sym, ◌∙◌}
 use Prim.Native.Nat.{ℕ, ◌+◌, ◌-◌, ◌*◌, ◌/◌, ◌%◌, ◌^◌, ◌≤◌, ◌<◌}
 use native.Mathlib.Nat.{pos_of_ne-zero, zero-add, zero-mul, mul-zero, mul-one, sub-zero}
 use native.Mathlib.Decide.{dec_lt}
 use native.Mathlib.Omega.{arith}
-use borrow.Author.Rules.{rules}
 use borrow.Author.Tests.{lt-leb, le-leb}
 use mir.Val.{bool_byte}
 use lib.Dec.{leb}
@@ -25,46 +23,7 @@ use Rattle.pairs.proofs.Reading.{
   from01_one,
 }
 use Rattle.pairs.proofs.Shares.{Shares, power, shares01, fits10, shares10, fits11, shares11}
-use borrow.Fn.Kinds.{In}
-use borrow.Fn.PlainCycle.{Measures, is, falls, and}
-use Rattle.pairs.proofs.readers.from01.Reads as from01
-use Rattle.pairs.proofs.readers.from01.Kinds as from01-kinds
-use Rattle.pairs.proofs.readers.+from01_from10_from11.Lts-from01 as from01-lts
-use Rattle.pairs.proofs.readers.from10.Reads as from10
-use Rattle.pairs.proofs.readers.from10.Kinds as from10-kinds
-use Rattle.pairs.proofs.readers.+from01_from10_from11.Lts-from10 as from10-lts
-use Rattle.pairs.proofs.readers.from11.Reads as from11
-use Rattle.pairs.proofs.readers.from11.Kinds as from11-kinds
-use Rattle.pairs.proofs.readers.+from01_from10_from11.Lts-from11 as from11-lts
-use Rattle.pairs.proofs.readers.+from01_from10_from11.{statement}
-use Rattle.pairs.proofs.readers.+from01_from10_from11.Tie.{close}
-
-abbrev μ-from01 : Measures 0 from01-kinds.ps ℕ
-μ-from01 κs a = a.0
-
-abbrev μ-from10 : Measures 0 from10-kinds.ps ℕ
-μ-from10 κs a = a.0
-
-abbrev μ-from11 : Measures 0 from11-kinds.ps ℕ
-μ-from11 κs a = a.0
-
-abbrev from01-at : ℕ → In 0 from01-kinds.ps
-from01-at t = and 0 from01-kinds.ps (is 0 from01-kinds.ps μ-from01 t) from01.Pre
-
-abbrev from01-below : ℕ → In 0 from01-kinds.ps
-from01-below t = and 0 from01-kinds.ps (falls 0 from01-kinds.ps ◌<◌ μ-from01 t) from01.Pre
-
-abbrev from10-at : ℕ → In 0 from10-kinds.ps
-from10-at t = and 0 from10-kinds.ps (is 0 from10-kinds.ps μ-from10 t) from10.Pre
-
-abbrev from10-below : ℕ → In 0 from10-kinds.ps
-from10-below t = and 0 from10-kinds.ps (falls 0 from10-kinds.ps ◌<◌ μ-from10 t) from10.Pre
-
-abbrev from11-at : ℕ → In 0 from11-kinds.ps
-from11-at t = and 0 from11-kinds.ps (is 0 from11-kinds.ps μ-from11 t) from11.Pre
-
-abbrev from11-below : ℕ → In 0 from11-kinds.ps
-from11-below t = and 0 from11-kinds.ps (falls 0 from11-kinds.ps ◌<◌ μ-from11 t) from11.Pre
+use Rattle.pairs.proofs.readers.+readers.Goals as goal
 
 -- at the test of the index, with z words that begin with 0 and o that begin with 1
 record Here (s : State) (t m i z o : ℕ) : Type 0 where
@@ -144,6 +103,9 @@ module _ {t m i half : ℕ} (h : Here s01 t m i half half) where
 abbrev Given : State → ℕ → ℕ → ℕ → ℕ → Type 0
 Given s t m i count = (m ≡ t) × ((m ≤ 31) × ((count ≡ length (words_from s m)) × (i < count)))
 
+given : (s : State) {t m i count : ℕ} → m ≡ t → m ≤ 31 → count ≡ length (words_from s m) → i < count → Given s t m i count
+given s e few long l = (e, (few, (long, l)))
+
 fit : (s : State) {t m i count : ℕ} → Given s t m i count → i < length (words_from s m)
 fit s (e, (few, (long, l))) = rw long at l
 
@@ -173,51 +135,78 @@ module _ {t m i count : ℕ} (pos : 1 ≤ m) (g : Given s10 t m i count) where
   here10 : Here s10 t m i (count - (power m - count)) (power m - count)
   here10 = here s10 _ _ g pos (shares10 m count g.1.0 two10 g.1.1.0)
 
-pub +from01-from10-from11-spec : {M : Type 1} → statement M
-+from01-from10-from11-spec = close μ-from01 μ-from10 μ-from11
-    (λ t. from01-lts.spec (from10-below t, from10.Post) (from01-at t) from01.Post
-    (λ c. one c.requires)
-    (λ c. search rules)
-    (λ c. omega arith)
-    (λ c. record { fits = omega (arith, small (letter_of (c.args.count / 2) c.args.i)) })
-    (λ c. record { fits = omega (arith, before-le (here01 c.requires) (letter_of _ c.args.i), c.ranges.i.fits) })
-    (λ c. before-le (here01 c.requires) (letter_of _ c.args.i))
-    (λ c κs. asks (here01 c.requires) (letter_of _ c.args.i))
-    (λ c. record { fits = letter-fits (here01 c.before.requires) (letter_of _ c.before.args.i) c.from10.ensures })
-    (λ c. gives (here01 c.before.requires) (letter_of _ c.before.args.i) c.from10.ensures))
-    (λ t. from10-lts.spec (from01-below t, from01.Post, from11-below t, from11.Post) (from10-at t) from10.Post
-    (λ c. sym (number_at_none _ _ c.if1.true (fit s10 c.before.requires)))
-    (λ c. pos_of_ne-zero c.if1.false)
-    (λ c. search rules)
-    (λ c. omega arith)
-    (λ c.
-    let g = c.before.requires in
-    (fits10 _ _ g.1.0 (two10 (pos_of_ne-zero c.if1.false) g) g.1.1.0).0)
-    (λ c.
-    let g = c.before.requires in
-    (fits10 _ _ g.1.0 (two10 (pos_of_ne-zero c.if1.false) g) g.1.1.0).1)
-    (λ c κs. asks_0 (here10 (pos_of_ne-zero c.before.if1.false) c.before.before.requires) c.if2.true)
-    (λ c.
-    let start = c.before.before in
-    gives-0 (here10 (pos_of_ne-zero start.if1.false) start.before.requires) c.before.if2.true c.from01.ensures)
-    (λ c. omega arith)
-    (λ c κs. asks_1 (here10 (pos_of_ne-zero c.before.if1.false) c.before.before.requires) c.if2.false)
-    (λ c.
-    let start = c.before.before in
-    let here = here10 (pos_of_ne-zero start.if1.false) start.before.requires in
-    record { fits = sum_fits here c.before.if2.false c.from11.ensures })
-    (λ c.
-    let start = c.before.before in
-    gives-1 (here10 (pos_of_ne-zero start.if1.false) start.before.requires) c.before.if2.false c.from11.ensures))
-    λ t. from11-lts.spec (from11-below t, from11.Post, from01-below t, from01.Post) (from11-at t) from11.Post
-    (λ c. omega (arith, two11 c.requires))
-    (λ c. search rules)
-    (λ c. omega (arith, two11 c.requires))
-    (λ c. (fits11 _ _ c.requires.1.0 (two11 c.requires) c.requires.1.1.0).0)
-    (λ c κs. asks_0 (here11 c.before.requires) c.if1.true)
-    (λ c. gives-0 (here11 c.before.before.requires) c.before.if1.true c.from11.ensures)
-    (λ c. omega arith)
-    (λ c. let g = c.before.requires in (fits11 _ _ g.1.0 (two11 g) g.1.1.0).1)
-    (λ c κs. asks_1 (here11 c.before.requires) c.if1.false)
-    (λ c. record { fits = sum_fits (here11 c.before.before.requires) c.before.if1.false c.from01.ensures })
-    (λ c. gives-1 (here11 c.before.before.requires) c.before.if1.false c.from01.ensures)
+pub from01-overflow_sub-rest : goal.from01-overflow_sub-rest
+from01-overflow_sub-rest t c =
+    let g : Given s01 t c.args.m c.args.i c.args.count = given s01 c.decreases c.requires.m_bound c.requires.count_value c.requires.i_lt_count in one g
+
+pub from01-from10-requires : goal.from01-from10-requires
+from01-from10-requires t c =
+    let g : Given s01 t c.args.m c.args.i c.args.count = given s01 c.decreases c.requires.m_bound c.requires.count_value c.requires.i_lt_count in asks (here01 g) (letter_of _ c.args.i)
+
+pub from01-overflow_add-result : goal.from01-overflow_add-result
+from01-overflow_add-result t c =
+    let g : Given s01 t c.args.m c.args.i c.args.count = given s01 c.decreases c.requires.m_bound c.requires.count_value c.requires.i_lt_count in record { fits = letter-fits (here01 g) (letter_of _ c.args.i) c.from10.ensures }
+
+pub from01-returns : goal.from01-returns
+from01-returns t c =
+    let g : Given s01 t c.args.m c.args.i c.args.count = given s01 c.decreases c.requires.m_bound c.requires.count_value c.requires.i_lt_count in gives (here01 g) (letter_of _ c.args.i) c.from10.ensures
+
+pub from10-returns-then-m-eq0 : goal.from10-returns-then-m-eq0
+from10-returns-then-m-eq0 t c =
+    let g : Given s10 t c.args.m c.args.i c.args.count = given s10 c.decreases c.requires.m_bound c.requires.count_value c.requires.i_lt_count in sym (number_at_none _ _ c.if-m-eq0.true (fit s10 g))
+
+pub from10-overflow_sub-ones : goal.from10-overflow_sub-ones
+from10-overflow_sub-ones t c =
+    let g : Given s10 t c.args.m c.args.i c.args.count = given s10 c.decreases c.requires.m_bound c.requires.count_value c.requires.i_lt_count in (fits10 _ _ c.requires.m_bound (two10 (pos_of_ne-zero c.if-m-eq0.false) g) c.requires.count_value).0
+
+pub from10-overflow_sub-zeros : goal.from10-overflow_sub-zeros
+from10-overflow_sub-zeros t c =
+    let g : Given s10 t c.args.m c.args.i c.args.count = given s10 c.decreases c.requires.m_bound c.requires.count_value c.requires.i_lt_count in (fits10 _ _ c.requires.m_bound (two10 (pos_of_ne-zero c.if-m-eq0.false) g) c.requires.count_value).1
+
+pub from10-from01-requires : goal.from10-from01-requires
+from10-from01-requires t c =
+    let g : Given s10 t c.args.m c.args.i c.args.count = given s10 c.decreases c.requires.m_bound c.requires.count_value c.requires.i_lt_count in asks_0 (here10 (pos_of_ne-zero c.if-m-eq0.false) g) c.if-i-zeros.true
+
+pub from10-returns-then-i-zeros : goal.from10-returns-then-i-zeros
+from10-returns-then-i-zeros t c =
+    let g : Given s10 t c.args.m c.args.i c.args.count = given s10 c.decreases c.requires.m_bound c.requires.count_value c.requires.i_lt_count in gives-0 (here10 (pos_of_ne-zero c.if-m-eq0.false) g) c.if-i-zeros.true c.from01.ensures
+
+pub from10-from11-requires : goal.from10-from11-requires
+from10-from11-requires t c =
+    let g : Given s10 t c.args.m c.args.i c.args.count = given s10 c.decreases c.requires.m_bound c.requires.count_value c.requires.i_lt_count in asks_1 (here10 (pos_of_ne-zero c.if-m-eq0.false) g) c.if-i-zeros.false
+
+pub from10-overflow_add-result : goal.from10-overflow_add-result
+from10-overflow_add-result t c =
+    let g : Given s10 t c.args.m c.args.i c.args.count = given s10 c.decreases c.requires.m_bound c.requires.count_value c.requires.i_lt_count in record { fits = sum_fits (here10 (pos_of_ne-zero c.if-m-eq0.false) g) c.if-i-zeros.false c.from11.ensures }
+
+pub from10-returns : goal.from10-returns
+from10-returns t c =
+    let g : Given s10 t c.args.m c.args.i c.args.count = given s10 c.decreases c.requires.m_bound c.requires.count_value c.requires.i_lt_count in gives-1 (here10 (pos_of_ne-zero c.if-m-eq0.false) g) c.if-i-zeros.false c.from11.ensures
+
+pub from11-overflow_sub-rest : goal.from11-overflow_sub-rest
+from11-overflow_sub-rest t c =
+    let g : Given s11 t c.args.m c.args.i c.args.count = given s11 c.decreases c.requires.m_bound c.requires.count_value c.requires.i_lt_count in omega (arith, two11 g)
+
+pub from11-overflow_sub-zeros : goal.from11-overflow_sub-zeros
+from11-overflow_sub-zeros t c =
+    let g : Given s11 t c.args.m c.args.i c.args.count = given s11 c.decreases c.requires.m_bound c.requires.count_value c.requires.i_lt_count in (fits11 _ _ c.requires.m_bound (two11 g) c.requires.count_value).0
+
+pub from11-from11-requires : goal.from11-from11-requires
+from11-from11-requires t c =
+    let g : Given s11 t c.args.m c.args.i c.args.count = given s11 c.decreases c.requires.m_bound c.requires.count_value c.requires.i_lt_count in asks_0 (here11 g) c.if-i-zeros.true
+
+pub from11-returns-then-i-zeros : goal.from11-returns-then-i-zeros
+from11-returns-then-i-zeros t c =
+    let g : Given s11 t c.args.m c.args.i c.args.count = given s11 c.decreases c.requires.m_bound c.requires.count_value c.requires.i_lt_count in gives-0 (here11 g) c.if-i-zeros.true c.from11.ensures
+
+pub from11-from01-requires : goal.from11-from01-requires
+from11-from01-requires t c =
+    let g : Given s11 t c.args.m c.args.i c.args.count = given s11 c.decreases c.requires.m_bound c.requires.count_value c.requires.i_lt_count in asks_1 (here11 g) c.if-i-zeros.false
+
+pub from11-overflow_add-result : goal.from11-overflow_add-result
+from11-overflow_add-result t c =
+    let g : Given s11 t c.args.m c.args.i c.args.count = given s11 c.decreases c.requires.m_bound c.requires.count_value c.requires.i_lt_count in record { fits = sum_fits (here11 g) c.if-i-zeros.false c.from01.ensures }
+
+pub from11-returns : goal.from11-returns
+from11-returns t c =
+    let g : Given s11 t c.args.m c.args.i c.args.count = given s11 c.decreases c.requires.m_bound c.requires.count_value c.requires.i_lt_count in gives-1 (here11 g) c.if-i-zeros.false c.from01.ensures

@@ -11,8 +11,7 @@ use lib.ListN.{length, get_or}
 use Rattle.loops.proofs.Entries.{entry}
 use Rattle.pairs.specs.Words.{words, tabled}
 use Rattle.pairs.proofs.Words.{words_closed, tabled_is}
-use Rattle.pairs.proofs.table.word_count.Statement.{statement}
-use Rattle.pairs.proofs.table.word_count.Tie as tie
+use Rattle.pairs.proofs.table.word_count.Goals as goal
 
 table : List ℕ
 table =
@@ -34,23 +33,14 @@ small : (k : ℕ) → k < 32 → get_or table k 0 < 2 ^ 64
 unfolding table
 small k h = ltb→lt (get_or table k 0) (2 ^ 64) (entry (λ k x. ltb x (2 ^ 64)) table tt k h)
 
-returns : tie.Need-returns
+pub returns-then-k-ge32 : goal.returns-then-k-ge32
 unfolding tabled
-returns c = rw (le-ltb c.before.args.k 32 c.if1.true)
+returns-then-k-ge32 c = rw (le-ltb c.args.k 32 c.if-k-ge32.true)
 
-mul-result : tie.Need-overflow-mul-result
-mul-result c = search rules
-
-array-read-result : tie.Need-array-read-result
-array-read-result c = search rules
-
-cast-result : tie.Need-overflow-cast-result
+pub overflow_cast-result : goal.overflow_cast-result
 unfolding table
-cast-result c = record { fits = small c.before.args.k (search rules) }
+overflow_cast-result c = record { fits = small c.args.k (search rules) }
 
-returns-2 : tie.Need-returns-2
+pub returns : goal.returns
 unfolding table
-returns-2 c = right c.before.args.k (search rules) ∙ sym (tabled_is c.before.args.k (search rules))
-
-pub word-count-spec : {M : Type 1} → statement M
-word-count-spec = tie.close (tie.spec returns mul-result array-read-result cast-result returns-2)
+returns c = right c.args.k (search rules) ∙ sym (tabled_is c.args.k (search rules))

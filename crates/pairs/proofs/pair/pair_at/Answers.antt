@@ -3,18 +3,18 @@ use mathlib.Core.Bool.{false}
 use mathlib.Core.List.{[], ◌∷◌}
 use mathlib.Core.Path.{◌≡◌, sym, ap, ◌∙◌}
 use Prim.Native.Nat.{ℕ, ◌≤◌, ◌<◌}
-use borrow.Author.Rules.{rules}
 use borrow.Author.Tests.{le-leb, lt-leb}
 use lib.ListN.{length, get_or}
 use Rattle.reply.specs.Reply.{served, refused}
 use Rattle.poly.specs.Limits.{outside, list_length}
+use Rattle.poly.specs.declared.limits.Count.{Count}
+use Rattle.poly.specs.declared.limits.Count.TheVariants.{Is}
 use Rattle.poly.specs.Replies.{count_reply, length_reply}
 use Rattle.poly.proofs.Ranges.{within, length_served, count_refused}
 use Rattle.pairs.specs.Pairs.{start, pairs}
 use Rattle.pairs.specs.Replies.{pair_reply, pair_at_reply}
 use Rattle.pairs.proofs.Pairs.{length_pairs}
-use Rattle.pairs.proofs.pair.pair_at.Statement.{statement}
-use Rattle.pairs.proofs.pair.pair_at.Tie as tie
+use Rattle.pairs.proofs.pair.pair_at.Goals as goal
 
 module _ (n position : ℕ) where
   bad_degree : {k : ℕ} → refused k ≡ length_reply n → refused k ≡ pair_at_reply n position
@@ -39,48 +39,30 @@ module _ (n position : ℕ) where
     unfolding pair_at_reply
     found h = rw (known.0, lt-leb (list_length n) position (rw known.1 at h))
 
-list-length-requires : tie.Need-list-length-requires
-list-length-requires c κs = search rules
+module _ (n : ℕ) {count : Count} {length' : ℕ} where
+  -- the length that the degree answered
+  answered : count ≡ Is length' → count_reply count ≡ length_reply n → served (length' ∷ []) ≡ length_reply n
+  answered is e = sym (ap count_reply is) ∙ e
 
-enum-known-refusal : tie.Need-enum-known-refusal
-enum-known-refusal c = search rules
+pub returns-then-length-position : goal.returns-then-length-position
+returns-then-length-position c =
+    let a = c.args in
+    bad_position a.n a.position _ (answered a.n c.in-Is.is c.list_length.ensures) c.if-length-position.true
 
-enum-known-length : tie.Need-enum-known-length
-enum-known-length c = search rules
+pub seek-requires : goal.seek-requires
+seek-requires c =
+    let a = c.args in
+    record {
+      n_bound = few a.n a.position _ (answered a.n c.in-Is.is c.list_length.ensures);
+      position_in_bounds = in_list a.n a.position _ (answered a.n c.in-Is.is c.list_length.ensures) c.if-length-position.false;
+    }
 
--- the length that the degree answered
-answered : (c : tie.After-known-told2)
-    → served (c.before.length.given.0.0 ∷ []) ≡ length_reply c.before.before.before.before.args.n
-answered c = sym (ap count_reply c.before.length.given.1) ∙ c.before.before.before.list_length.ensures
+pub returns-in-Refused : goal.returns-in-Refused
+returns-in-Refused c =
+    let a = c.args in
+    bad_degree a.n a.position (sym (ap count_reply c.in-Refused.is) ∙ c.list_length.ensures)
 
-returns : tie.Need-returns
-returns c =
-    let a = c.before.before.before.before.before.args in
-    bad_position a.n a.position _ (answered c.before) c.if1.true
-
-seek-requires : tie.Need-seek-requires
-seek-requires c κs =
-    let a = c.before.before.before.before.before.args in
-    (few a.n a.position _ (answered c.before), in_list a.n a.position _ (answered c.before) c.if1.false)
-
-returns-2 : tie.Need-returns-2
-returns-2 c =
-    let a = c.before.before.before.before.args in
-    bad_degree a.n a.position (sym (ap count_reply c.before.refusal.given.1) ∙ c.before.before.before.list_length.ensures)
-
-returns-3 : tie.Need-returns-3
-returns-3 c =
-    let a = c.before.before.before.before.before.before.args in
-    c.seek.ensures ∙ found a.n a.position _ (answered c.before.before) c.before.if1.false
-
-pub pair-at-spec : {M : Type 1} → statement M
-pair-at-spec =
-    tie.close
-    (tie.spec
-    list-length-requires
-    enum-known-refusal
-    enum-known-length
-    returns
-    seek-requires
-    returns-2
-    returns-3)
+pub returns-else-length-position : goal.returns-else-length-position
+returns-else-length-position c =
+    let a = c.args in
+    c.seek.ensures ∙ found a.n a.position _ (answered a.n c.in-Is.is c.list_length.ensures) c.if-length-position.false
