@@ -5,10 +5,11 @@ use mathlib.Core.Path.{◌≡◌, sym, ap, ◌∙◌}
 use mathlib.Core.List.{[], ◌∷◌}
 use Prim.Native.Nat.{ℕ, ◌-◌, ◌≤◌}
 use native.Mathlib.Omega.{arith}
-use borrow.Author.Rules.{rules}
 use lib.ListN.{length}
 use Rattle.reply.specs.Reply.{served, refused}
 use Rattle.poly.specs.Limits.{outside, list_length}
+use Rattle.poly.specs.declared.limits.Count.{Count}
+use Rattle.poly.specs.declared.limits.Count.TheVariants.{Is}
 use Rattle.poly.specs.Replies.{count_reply, length_reply}
 use Rattle.poly.proofs.Ranges.{within, length_served, count_refused}
 use Rattle.pairs.specs.Words.{s10, words as words_of}
@@ -16,8 +17,7 @@ use Rattle.pairs.proofs.Words.{count, length_words}
 use Rattle.longest.specs.Replies.{longest_reply}
 use Rattle.longest.proofs.LastBlock.{fewer}
 use Rattle.longest.proofs.Calls.{parted, none_reach, some_reach}
-use Rattle.longest.proofs.longest_chains.Statement.{statement}
-use Rattle.longest.proofs.longest_chains.Tie as tie
+use Rattle.longest.proofs.longest_chains.Goals as goal
 
 module _ (n : ℕ) where
   bad_degree : {k : ℕ} → refused k ≡ length_reply n → refused k ≡ longest_reply n
@@ -43,44 +43,22 @@ module _ (n : ℕ) where
         rw (first, counted) (sym (some_reach n known.0 (omega (arith, counted))))
 
 -- the length that the degree answered
-answered : (c : tie.After-known-told2)
-    → served (c.before.length.given.0.0 ∷ []) ≡ length_reply c.before.before.before.before.args.n
-answered c = sym (ap count_reply c.before.length.given.1) ∙ c.before.before.before.list_length.ensures
+answered : (n : ℕ) {count : Count} {length' : ℕ} → count ≡ Is length' → count_reply count ≡ length_reply n
+    → served (length' ∷ []) ≡ length_reply n
+answered n is e = sym (ap count_reply is) ∙ e
 
-list-length-requires : tie.Need-list-length-requires
-list-length-requires c κs = search rules
+pub reaching-count-requires : goal.reaching-count-requires
+reaching-count-requires c = (within 1 31 (length_served _ (answered c.args.n c.in-Is.is c.list_length.ensures)).0).1
 
-enum-known-refusal : tie.Need-enum-known-refusal
-enum-known-refusal c = search rules
+pub returns-then-count-eq0 : goal.returns-then-count-eq0
+returns-then-count-eq0 c = none _ (answered c.args.n c.in-Is.is c.list_length.ensures) c.reaching-count.ensures c.if-count-eq0.true
 
-enum-known-length : tie.Need-enum-known-length
-enum-known-length c = search rules
+pub overflow_sub-result : goal.overflow_sub-result
+overflow_sub-result c = enough _ (answered c.args.n c.in-Is.is c.list_length.ensures) c.reaching-count.ensures
 
-reaching-requires : tie.Need-reaching-requires
-reaching-requires c κs = (within 1 31 (length_served _ (answered c)).0).1
+pub returns-in-Refused : goal.returns-in-Refused
+returns-in-Refused c =
+    bad_degree _ (sym (ap count_reply c.in-Refused.is) ∙ c.list_length.ensures)
 
-returns : tie.Need-returns
-returns c = none _ (answered c.before.before) c.before.reaching.ensures c.if1.true
-
-sub-t9 : tie.Need-overflow-sub-t9
-sub-t9 c = enough _ (answered c.before.before) c.before.reaching.ensures
-
-returns-2 : tie.Need-returns-2
-returns-2 c =
-    bad_degree _ (sym (ap count_reply c.before.refusal.given.1) ∙ c.before.before.before.list_length.ensures)
-
-returns-3 : tie.Need-returns-3
-returns-3 c = some _ (answered c.before.before) c.before.reaching.ensures c.if1.false
-
-pub longest-chains-spec : {M : Type 1} → statement M
-longest-chains-spec =
-    tie.close
-    (tie.spec
-    list-length-requires
-    enum-known-refusal
-    enum-known-length
-    reaching-requires
-    returns
-    sub-t9
-    returns-2
-    returns-3)
+pub returns-else-count-eq0 : goal.returns-else-count-eq0
+returns-else-count-eq0 c = some _ (answered c.args.n c.in-Is.is c.list_length.ensures) c.reaching-count.ensures c.if-count-eq0.false
