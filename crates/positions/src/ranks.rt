@@ -5,7 +5,7 @@ ghost use Rattle.pairs.specs.Words.{s10, s11, s01, leads, words_from};
 ghost use Rattle.positions.specs.Ranking.{StandsAt, last_letters};
 
 // The word is the last m binary digits of x. From (1,0): 0 goes to (0,1), 1 to (1,1).
-#[cycle(rank01_rank10_rank11)]
+#[cycle(ranks)]
 pub(crate) fn rank10(m: usize, x: u32, count: u64) -> u64
     requires short { m < 32 }
     requires all { count ≡ length (words_from s10 m) }
@@ -25,7 +25,7 @@ pub(crate) fn rank10(m: usize, x: u32, count: u64) -> u64
 }
 
 // From (1,1): 0 stays, 1 goes to (0,1).
-#[cycle(rank01_rank10_rank11)]
+#[cycle(ranks)]
 fn rank11(m: usize, x: u32, count: u64) -> u64
     requires short { m < 32 }
     requires all { count ≡ length (words_from s11 m) }
@@ -41,7 +41,7 @@ fn rank11(m: usize, x: u32, count: u64) -> u64
 }
 
 // From (0,1): either letter goes to (1,0).
-#[cycle(rank01_rank10_rank11)]
+#[cycle(ranks)]
 fn rank01(m: usize, x: u32, count: u64) -> u64
     requires short { m < 32 }
     requires all { count ≡ length (words_from s01 m) }
