@@ -1,17 +1,14 @@
--- `by_threes` meets its contract. The invariant: the bytes below `at` are stored, and the three words spell the next 24. The first of them
--- goes behind the others, since 24 bytes on the symbols are the same.
 use mathlib.Core.Path.{◌≡◌, refl, ap, ◌∙◌}
 use mathlib.Core.List.{List, [], ◌∷◌}
-use Prim.Native.Nat.{ℕ, zero, suc, ◌+◌, ◌-◌, ◌%◌, ◌≤◌, ◌<◌}
+use Prim.Native.Nat.{ℕ, zero, suc, ◌+◌, ◌-◌, ◌%◌, ◌<◌}
 use native.Mathlib.Decide.{dec_lt}
 use native.Mathlib.Omega.{arith}
-use borrow.Author.Rules.{rules}
-use lib.ListN.{length, get_or}
+use lib.ListN.{get_or}
 use lib.Seq.{sets, length-sets}
 use Rattle.squares.specs.Doubling.{by_turns, bytes_of, Spelled}
 use Rattle.squares.proofs.Patterns.{stores_before, stores_in}
-use Rattle.squares.proofs.by_threes.Statement.{statement}
-use Rattle.squares.proofs.by_threes.Tie as tie
+use Rattle.squares.proofs.by_threes.Invariants.{State}
+use Rattle.squares.proofs.by_threes.Goals as goal
 
 module _ (f g h : ℕ) where
   abbrev symbols : List ℕ
@@ -40,17 +37,8 @@ module _ (f g h : ℕ) where
     byte = λ k l. let same : (at + k) % 3 ≡ (at + 8 + 16 + k) % 3 = omega arith in s.byte k l ∙ ap (λ v. get_or symbols v 0) same;
   }
 
-  record State (pattern : List ℕ) (word next last at : ℕ) : Type 0 where
-    whole : at % 8 ≡ 0
-    most : at ≤ 192
-    long : length pattern ≡ 192
-    stored : (j : ℕ) → j < at → get_or pattern j 0 ≡ by_turns symbols j
-    one : Spelled symbols at word
-    two : Spelled symbols (at + 8) next
-    three : Spelled symbols (at + 16) last
-
-  turn : {pattern : List ℕ} {word next last at : ℕ} → at < 192 → State pattern word next last at
-      → State (sets pattern at (bytes_of word)) next last word (at + 8)
+  turn : {pattern : List ℕ} {word next last at : ℕ} → at < 192 → State f g h pattern word next last at
+      → State f g h (sets pattern at (bytes_of word)) next last word (at + 8)
   turn {pattern} {word} {next} {last} {at} l s = record {
     whole = omega (arith, s.whole);
     most = omega (arith, s.whole);
@@ -70,26 +58,20 @@ module _ (f g h : ℕ) where
           behind : (k : ℕ) → j ≡ at + k → k < 8 → get_or (sets pattern at (bytes_of word)) j 0 ≡ by_turns symbols j
           behind k e hk = rw e (stores_in pattern at (bytes_of word) k hk (omega (arith, s.long, s.whole)) ∙ s.one.byte k hk)
 
-abbrev invariant-loop : tie.invariant-loop
-invariant-loop f g h pattern₀ word₀ next₀ last₀ at₀ pattern word next last at = State f g h pattern word next last at
-
-abbrev decreases-loop : tie.decreases-loop
-decreases-loop f g h pattern₀ word₀ next₀ last₀ at₀ pattern word next last at = 192 - at
-
-loop-holds : tie.Need-loop-init invariant-loop decreases-loop
-loop-holds c = record {
+pub loop-at-init : goal.loop-at-init
+loop-at-init c = record {
   whole = refl;
   most = omega arith;
   long = refl;
   stored = λ j l. absurd (omega arith);
-  one = c.before.before.spelled.ensures;
-  two = second _ _ _ c.before.spelled2.ensures;
-  three = third _ _ _ c.spelled3.ensures;
+  one = c.spelled-word.ensures;
+  two = second _ _ _ c.spelled-next.ensures;
+  three = third _ _ _ c.spelled-last.ensures;
 }
 
-loop-again : tie.Need-loop-preserved invariant-loop decreases-loop
-loop-again c =
-    let at : ℕ = c.before.loop.at in
+pub loop-at-preserved : goal.loop-at-preserved
+loop-at-preserved c =
+    let at : ℕ = c.loop-at.at in
     let e1 : at + 1 ≡ suc at = omega arith in
     let e2 : at + 2 ≡ suc (suc at) = omega arith in
     let e3 : at + 3 ≡ suc (suc (suc at)) = omega arith in
@@ -97,20 +79,34 @@ loop-again c =
     let e5 : at + 5 ≡ suc (suc (suc (suc (suc at)))) = omega arith in
     let e6 : at + 6 ≡ suc (suc (suc (suc (suc (suc at))))) = omega arith in
     let e7 : at + 7 ≡ suc (suc (suc (suc (suc (suc (suc at)))))) = omega arith in
-    rw (e1, e2, e3, e4, e5, e6, e7) (turn _ _ _ c.loop-test.true c.before.loop.invariant)
+    rw (e1, e2, e3, e4, e5, e6, e7) (turn _ _ _ c.loop-at-test.true c.loop-at.invariant)
 
-returns : tie.Need-returns invariant-loop decreases-loop
-returns c = record { at = λ i l. c.before.loop.invariant.stored i (omega (arith, c.loop-test.false)) }
+pub returns : goal.returns
+returns c = record { at = λ i l. c.loop-at.invariant.stored i (omega (arith, c.loop-at-test.false)) }
 
-pub by-threes-spec : {M : Type 1} → statement M
-by-threes-spec =
-    tie.close
-    (tie.spec invariant-loop decreases-loop (λ c κs. search rules) (λ c κs. search rules) (λ c κs. search rules) loop-holds (λ c. search rules)
-    (λ c. omega arith) (λ c. search rules) (λ c. search rules)
-    (λ c. omega arith) (λ c. search rules) (λ c. search rules)
-    (λ c. omega arith) (λ c. search rules) (λ c. search rules)
-    (λ c. omega arith) (λ c. search rules) (λ c. search rules)
-    (λ c. omega arith) (λ c. search rules) (λ c. search rules)
-    (λ c. omega arith) (λ c. search rules) (λ c. search rules)
-    (λ c. omega arith) (λ c. search rules) (λ c. search rules)
-    (λ c. omega arith) (λ c. search rules) (λ c. omega arith) loop-again returns)
+pub bounds-pattern-at : goal.bounds-pattern-at
+bounds-pattern-at c = omega arith
+
+pub bounds-pattern-at-in-loop-at : goal.bounds-pattern-at-in-loop-at
+bounds-pattern-at-in-loop-at c = omega arith
+
+pub bounds-pattern-at-in-loop-at-2 : goal.bounds-pattern-at-in-loop-at-2
+bounds-pattern-at-in-loop-at-2 c = omega arith
+
+pub bounds-pattern-at-in-loop-at-3 : goal.bounds-pattern-at-in-loop-at-3
+bounds-pattern-at-in-loop-at-3 c = omega arith
+
+pub bounds-pattern-at-in-loop-at-4 : goal.bounds-pattern-at-in-loop-at-4
+bounds-pattern-at-in-loop-at-4 c = omega arith
+
+pub bounds-pattern-at-in-loop-at-5 : goal.bounds-pattern-at-in-loop-at-5
+bounds-pattern-at-in-loop-at-5 c = omega arith
+
+pub bounds-pattern-at-in-loop-at-6 : goal.bounds-pattern-at-in-loop-at-6
+bounds-pattern-at-in-loop-at-6 c = omega arith
+
+pub bounds-pattern-at-in-loop-at-7 : goal.bounds-pattern-at-in-loop-at-7
+bounds-pattern-at-in-loop-at-7 c = omega arith
+
+pub loop-at-smaller : goal.loop-at-smaller
+loop-at-smaller c = omega arith

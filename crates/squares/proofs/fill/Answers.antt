@@ -1,5 +1,3 @@
--- `fill` meets its contract, for any list of two or three codes. The invariant: the bytes of the first 2^m sites are stored. By linearity,
--- those of the next 2^m are the same exclusive or the symbols at site 2^m.
 use mathlib.Core.Logic.{◌⊎◌, inl, inr}
 use mathlib.Core.Path.{◌≡◌, refl, sym, ap, ap₂, ◌∙◌}
 use mathlib.Core.List.{List, [], ◌∷◌, ◌++◌}
@@ -18,8 +16,8 @@ use Rattle.squares.specs.Doubling.{codes_of, at_site, unit_symbols, by_turns, Fi
 use Rattle.squares.proofs.Binary.{site_zero, site_next}
 use Rattle.squares.proofs.Sheets.{map_at, square_is, four_pos, sheet_of_length}
 use Rattle.squares.proofs.Bytes.{byte_is}
-use Rattle.squares.proofs.fill.Statement.{statement}
-use Rattle.squares.proofs.fill.Tie as tie
+use Rattle.squares.proofs.fill.Invariants.{Filled}
+use Rattle.squares.proofs.fill.Goals as goal
 
 twice : (width m : ℕ) → width * 2 ^ suc m ≡ width * 2 ^ m + width * 2 ^ m
 twice width m = let e : 2 ^ suc m ≡ 2 ^ m + 2 ^ m = omega (arith, pow-suc 2 m) in rw e (mul-add width (2 ^ m) (2 ^ m))
@@ -28,12 +26,12 @@ twice width m = let e : 2 ^ suc m ≡ 2 ^ m + 2 ^ m = omega (arith, pow-suc 2 m)
 abbrev begun : ℕ → List ℕ → List ℕ
 begun width lent = set (set (set lent 0 0) 1 0) (width - 1) 0
 
-begun-length : (width : ℕ) (lent : List ℕ) → length (begun width lent) ≡ length lent
-begun-length width lent = length-set (set (set lent 0 0) 1 0) (width - 1) 0 ∙ length-set (set lent 0 0) 1 0 ∙ length-set lent 0 0
+begun_length : (width : ℕ) (lent : List ℕ) → length (begun width lent) ≡ length lent
+begun_length width lent = length-set (set (set lent 0 0) 1 0) (width - 1) 0 ∙ length-set (set lent 0 0) 1 0 ∙ length-set lent 0 0
 
 module _ (width : ℕ) (two : 2 ≤ width) (lent : List ℕ) where
-  begun-zero : width ≤ 3 → width ≤ length lent → (k : ℕ) → k < width → get_or (begun width lent) k 0 ≡ 0
-  begun-zero most room k hk = elim (ℕ_discrete k (width - 1)) [
+  begun_zero : width ≤ 3 → width ≤ length lent → (k : ℕ) → k < width → get_or (begun width lent) k 0 ≡ 0
+  begun_zero most room k hk = elim (ℕ_discrete k (width - 1)) [
     | yes e ↦ rw e (get_or-set_same (set (set lent 0 0) 1 0) (width - 1) 0 0 (rw (length-set, length-set) (omega arith)))
     | no ne ↦ get_or-set_other (set (set lent 0 0) 1 0) (width - 1) k 0 0 ne
         ∙ elim (ℕ_discrete k 1) [
@@ -43,8 +41,8 @@ module _ (width : ℕ) (two : 2 ≤ width) (lent : List ℕ) where
         ]
   ]
 
-  begun-high : (j : ℕ) → width ≤ j → get_or (begun width lent) j 0 ≡ get_or lent j 0
-  begun-high j h =
+  begun_high : (j : ℕ) → width ≤ j → get_or (begun width lent) j 0 ≡ get_or lent j 0
+  begun_high j h =
       get_or-set_other (set (set lent 0 0) 1 0) (width - 1) j 0 0 (λ e. omega arith)
       ∙ get_or-set_other (set lent 0 0) 1 j 0 0 (λ e. omega arith) ∙ get_or-set_other lent 0 j 0 0 (λ e. omega arith)
 
@@ -52,14 +50,8 @@ module _ (n : ℕ) (codes : List ℕ) where
   abbrev width : ℕ
   width = length codes
 
-  -- what is stored: the bytes of the first 2^m sites, and behind them what was there
-  record Filled (m : ℕ) (lent out : List ℕ) : Type 0 where
-    long : length out ≡ length lent
-    low : (site : ℕ) {k : ℕ} → site < 2 ^ m → k < width → get_or out (width * site + k) 0 ≡ at_site n (get_or codes k 0) site
-    high : (j : ℕ) → width * 2 ^ m ≤ j → get_or out j 0 ≡ get_or lent j 0
-
   module _ (small : (k : ℕ) → k < width → get_or codes k 0 < 2 ^ suc n) where
-    start : 2 ≤ width → width ≤ 3 → (lent : List ℕ) → width ≤ length lent → Filled 0 (begun width lent) (begun width lent)
+    start : 2 ≤ width → width ≤ 3 → (lent : List ℕ) → width ≤ length lent → Filled n codes 0 (begun width lent) (begun width lent)
     start two most lent room = record { long = refl; low = low; high = λ j h. refl }
       where
         low : (site : ℕ) {k : ℕ} → site < 2 ^ 0 → k < width
@@ -67,11 +59,11 @@ module _ (n : ℕ) (codes : List ℕ) where
         low site {k} h hk =
             let e : site ≡ 0 = omega arith in
             let place : width * 0 + k ≡ k = omega arith in
-            rw (e, place) (begun-zero width two lent most room k hk ∙ sym (site_zero n (small k hk)))
+            rw (e, place) (begun_zero width two lent most room k hk ∙ sym (site_zero n (small k hk)))
 
     -- twice as many
-    turn : {m : ℕ} {lent out out' : List ℕ} → Filled m lent out
-        → Added out 0 (width * 2 ^ m) (width * 2 ^ m) (by_turns (unit_symbols n m codes)) out' → Filled (suc m) lent out'
+    turn : {m : ℕ} {lent out out' : List ℕ} → Filled n codes m lent out
+        → Added out 0 (width * 2 ^ m) (width * 2 ^ m) (by_turns (unit_symbols n m codes)) out' → Filled n codes (suc m) lent out'
     turn {m} {lent} {out} {out'} s a = record { long = a.long ∙ s.long; low = low; high = high }
       where
         high : (j : ℕ) → width * 2 ^ suc m ≤ j → get_or out' j 0 ≡ get_or lent j 0
@@ -106,10 +98,10 @@ module _ (n : ℕ) (codes : List ℕ) where
             rest i e = rw e (behind i (omega (arith, pow-suc 2 m)) hk)
 
   -- all of them
-  finished : (lent : List ℕ) {out : List ℕ} → 2 ≤ width → width * 4 ^ n ≤ length lent → Filled (2 * n) (begun width lent) out
+  finished : (lent : List ℕ) {out : List ℕ} → 2 ≤ width → width * 4 ^ n ≤ length lent → Filled n codes (2 * n) (begun width lent) out
       → out ≡ sheet_of n codes ++ drop (width * 4 ^ n) lent
   finished lent {out} two room s =
-      ext_get_or 0 out (sheet_of n codes ++ drop (width * 4 ^ n) lent) (s.long ∙ begun-length width lent ∙ sym all) (λ j h. at j)
+      ext_get_or 0 out (sheet_of n codes ++ drop (width * 4 ^ n) lent) (s.long ∙ begun_length width lent ∙ sym all) (λ j h. at j)
     where
       all : length (sheet_of n codes ++ drop (width * 4 ^ n) lent) ≡ length lent
       all =
@@ -123,8 +115,8 @@ module _ (n : ℕ) (codes : List ℕ) where
       size = ap (λ v. width * v) (square_is n)
 
       -- a byte of the sheet, by its site
-      at-site : (j : ℕ) → j < width * 4 ^ n → get_or out j 0 ≡ get_or (sheet_of n codes) j 0
-      at-site j l =
+      sheet_byte : (j : ℕ) → j < width * 4 ^ n → get_or out j 0 ≡ get_or (sheet_of n codes) j 0
+      sheet_byte j l =
           let site : ℕ = j / width in
           let k_lt : j % width < width = mod-lt j some in
           let site-lt : site < 4 ^ n = (div-lt_iff_lt-mul some).1 (rw (mul_comm (4 ^ n) width) l) in
@@ -134,11 +126,11 @@ module _ (n : ℕ) (codes : List ℕ) where
 
       at : (j : ℕ) → get_or out j 0 ≡ get_or (sheet_of n codes ++ drop (width * 4 ^ n) lent) j 0
       at j = elim (dec_lt j (width * 4 ^ n)) [
-        | yes l ↦ at-site j l ∙ sym (get_or-append (sheet_of n codes) (drop (width * 4 ^ n) lent) 0 j (rw (sheet_of_length n codes) l))
+        | yes l ↦ sheet_byte j l ∙ sym (get_or-append (sheet_of n codes) (drop (width * 4 ^ n) lent) 0 j (rw (sheet_of_length n codes) l))
         | no l ↦ let k : ℕ = j - width * 4 ^ n in
             let whole : j ≡ width * 4 ^ n + k = omega arith in
             let there : j ≡ length (sheet_of n codes) + k = rw (sheet_of_length n codes) whole in
-            s.high j (rw size (omega arith)) ∙ begun-high width two lent j (omega (arith, mul-le-mul_left width (four_pos n)))
+            s.high j (rw size (omega arith)) ∙ begun_high width two lent j (omega (arith, mul-le-mul_left width (four_pos n)))
             ∙ ap (λ v. get_or lent v 0) whole
             ∙ sym (ap (λ v. get_or (sheet_of n codes ++ drop (width * 4 ^ n) lent) v 0) there
             ∙ get_or-append-add (sheet_of n codes) (drop (width * 4 ^ n) lent) k 0 ∙ get_or-drop (width * 4 ^ n) lent k 0)
@@ -149,9 +141,9 @@ counted : (width f g h : ℕ) → (width ≡ 2) ⊎ (width ≡ 3) → (length (c
 counted width f g h (inl e) = rw e (refl, omega arith, omega arith)
 counted width f g h (inr e) = rw e (refl, omega arith, omega arith)
 
-small-codes : {n width f g h : ℕ} → Fillable n width f g h → (k : ℕ) → k < length (codes_of width f g h)
+small_codes : {n width f g h : ℕ} → Fillable n width f g h → (k : ℕ) → k < length (codes_of width f g h)
     → get_or (codes_of width f g h) k 0 < 2 ^ suc n
-small-codes {n} {width} {f} {g} {h} given = go given.two_or_three
+small_codes {n} {width} {f} {g} {h} given = go given.two_or_three
   where
     go : (width ≡ 2) ⊎ (width ≡ 3) → (k : ℕ) → k < length (codes_of width f g h) → get_or (codes_of width f g h) k 0 < 2 ^ suc n
     go (inl e) = rw e (λ k. two k)
@@ -178,11 +170,11 @@ module _ {n width f g h : ℕ} (given : Fillable n width f g h) where
   begins : (lent : List ℕ) → width ≤ length lent → Filled n codes 0 (begun width lent) (begun width lent)
   begins lent room =
       let (e, two, three) = count in
-      rw e at (start n codes (small-codes given) (rw e two) (rw e three) lent (rw e room))
+      rw e at (start n codes (small_codes given) (rw e two) (rw e three) lent (rw e room))
 
   turns : {m : ℕ} {lent out out' : List ℕ} → Filled n codes m lent out
       → Added out 0 (width * 2 ^ m) (width * 2 ^ m) (by_turns (unit_symbols n m codes)) out' → Filled n codes (m + 1) lent out'
-  turns {m} s a = rw (add-one m) (turn n codes (small-codes given) s (rw count.0 a))
+  turns {m} s a = rw (add-one m) (turn n codes (small_codes given) s (rw count.0 a))
 
   ends : (lent : List ℕ) {m : ℕ} {out : List ℕ} → width * 4 ^ n ≤ length lent → m ≡ 2 * n → Filled n codes m (begun width lent) out
       → out ≡ sheet_of n codes ++ drop (width * 4 ^ n) lent
@@ -196,72 +188,54 @@ enough n m width l room same =
     let most : 2 ^ suc m ≤ 4 ^ n = rw (← square_is n) (pow_mono {i = suc m} {j = 2 * n} l) in
     omega (arith, mul-le-mul_left width most, twice width m)
 
-abbrev invariant-loop : tie.invariant-loop
-invariant-loop n f g h width out₀ m₀ out m = Filled n (codes_of width f g h) m out₀ out × (m ≤ 2 * n)
+room : {n width f g h len : ℕ} → Fillable n width f g h → width * 4 ^ n ≤ len → (2 ≤ width) × (width ≤ len)
+room {n} {width} given enough = ((count given).1, omega (arith, mul-le-mul_left width (four_pos n)))
 
-abbrev decreases-loop : tie.decreases-loop
-decreases-loop n f g h width out₀ m₀ out m = 2 * n - m
+pub bounds-out-0 : goal.bounds-out-0
+bounds-out-0 c = omega (arith, room c.requires.0 c.requires.1)
 
-room : (s : tie.Start invariant-loop decreases-loop) → (2 ≤ s.args.width) × (s.args.width ≤ length s.args.out.now)
-room s =
-    ((count s.requires.0).1, omega (arith, mul-le-mul_left s.args.width (four_pos s.args.n), s.requires.1))
+pub bounds-out-1 : goal.bounds-out-1
+bounds-out-1 c = rw length-set (omega (arith, room c.requires.0 c.requires.1))
 
-slice-write-out : tie.Need-slice-write-out invariant-loop decreases-loop
-slice-write-out c = omega (arith, room c.before)
+pub overflow_sub-out : goal.overflow_sub-out
+overflow_sub-out c = omega (arith, room c.requires.0 c.requires.1)
 
-slice-write-out-2 : tie.Need-slice-write-out-2 invariant-loop decreases-loop
-slice-write-out-2 c = rw length-set (omega (arith, room c.before))
+pub bounds-out-width : goal.bounds-out-width
+bounds-out-width c = rw (length-set, length-set) (omega (arith, room c.requires.0 c.requires.1))
 
-sub_out : tie.Need-overflow-sub-out invariant-loop decreases-loop
-sub_out c = omega (arith, room c.before)
+pub loop-m-init : goal.loop-m-init
+loop-m-init c = (begins c.requires.0 c.args.out.now (room c.requires.0 c.requires.1).1, omega arith)
 
-slice-write-out-3 : tie.Need-slice-write-out-3 invariant-loop decreases-loop
-slice-write-out-3 c = rw (length-set, length-set) (omega (arith, room c.before))
+pub overflow_mul-n : goal.overflow_mul-n
+overflow_mul-n c = record { fits = omega (arith, c.requires.0.few) }
 
-loop-holds : tie.Need-loop-init invariant-loop decreases-loop
-loop-holds c = let s = c.before in (begins s.requires.0 s.args.out.now (room s).1, omega arith)
-
-mul-loop : tie.Need-overflow-mul-loop invariant-loop decreases-loop
-mul-loop c = record { fits = omega (arith, c.before.before.requires.0.few) }
-
-double-requires : tie.Need-double-requires invariant-loop decreases-loop
-double-requires c κs =
-    let this = c.before in
-    let loop = this.before.loop in
-    let s = this.before.before.before in (
-      s.requires.0,
-      this.loop-test.true,
-      enough s.args.n loop.m s.args.width this.loop-test.true s.requires.1
-          (loop.invariant.0.long ∙ begun-length s.args.width s.args.out.now),
+pub double-requires : goal.double-requires
+double-requires c =
+    let loop = c.loop-m in (
+      c.requires.0,
+      c.loop-m-test.true,
+      enough c.args.n loop.m c.args.width c.loop-m-test.true c.requires.1
+          (loop.invariant.0.long ∙ begun_length c.args.width c.args.out.now),
     )
 
-add-m : tie.Need-overflow-add-m invariant-loop decreases-loop
-add-m c =
-    let this = c.before.before.before.before in
-    record { fits = omega (arith, this.loop-test.true, this.before.before.before.requires.0.few) }
+pub overflow_add-m : goal.overflow_add-m
+overflow_add-m c =
+    record { fits = omega (arith, c.loop-m-test.true, c.requires.0.few) }
 
-loop-less : tie.Need-loop-smaller invariant-loop decreases-loop
-loop-less c = omega (arith, c.before.before.before.before.loop-test.true)
+pub loop-m-smaller : goal.loop-m-smaller
+loop-m-smaller c = omega (arith, c.loop-m-test.true)
 
-loop-again : tie.Need-loop-preserved invariant-loop decreases-loop
-loop-again c =
-    let this = c.before.before.before.before in (
-      turns this.before.before.before.requires.0 this.before.loop.invariant.0 c.before.before.double.ensures,
-      omega (arith, this.loop-test.true),
-    )
+pub loop-m-preserved : goal.loop-m-preserved
+loop-m-preserved c = (
+  turns c.requires.0 c.loop-m.invariant.0 c.double.ensures,
+  omega (arith, c.loop-m-test.true),
+)
 
-same_length : tie.Need-same-length invariant-loop decreases-loop
-same_length c =
-    let a = c.before.before.before.args in
-    c.before.loop.invariant.0.long ∙ begun-length a.width a.out.now
+pub shape_of-out : goal.shape_of-out
+shape_of-out c =
+    let a = c.args in
+    c.loop-m.invariant.0.long ∙ begun_length a.width a.out.now
 
-returns : tie.Need-returns invariant-loop decreases-loop
+pub returns : goal.returns
 returns c =
-    let s = c.before.before.before in
-    ends s.requires.0 s.args.out.now s.requires.1 (omega (arith, c.before.loop.invariant.1)) c.before.loop.invariant.0
-
-pub fill_spec : {M : Type 1} → statement M
-fill_spec =
-    tie.close
-    (tie.spec invariant-loop decreases-loop slice-write-out slice-write-out-2 sub_out slice-write-out-3 loop-holds mul-loop double-requires add-m
-    loop-less loop-again same_length returns)
+    ends c.requires.0 c.args.out.now c.requires.1 (omega (arith, c.loop-m.invariant.1)) c.loop-m.invariant.0

@@ -3,12 +3,10 @@ use mathlib.Core.Path.{◌≡◌, ap, ◌∙◌}
 use mathlib.Core.List.{[], ◌∷◌}
 use Prim.Native.Nat.{ℕ, zero, suc, ◌+◌, ◌*◌, ◌/◌, ◌%◌, ◌<◌}
 use native.Mathlib.Omega.{arith}
-use borrow.Author.Rules.{rules}
 use lib.Arith.{digits_div, digits_mod}
 use lib.ListN.{get_or}
 use Rattle.squares.specs.Doubling.{by_turns, bytes_of, Spelled}
-use Rattle.squares.proofs.spelled.Statement.{statement}
-use Rattle.squares.proofs.spelled.Tie as tie
+use Rattle.squares.proofs.spelled.Goals as goal
 
 -- the digit b, and the lowest one
 digit : {word : ℕ} (Q M : ℕ) {b R : ℕ} → b < 256 → R < M → word ≡ (Q * 256 + b) * M + R → word / M % 256 ≡ b
@@ -49,10 +47,5 @@ spells {x} {y} {z} hx hy hz = record { byte = byte }
         hy (omega arith) (omega arith)
     byte (suc (suc (suc (suc (suc (suc (suc (suc k)))))))) l = absurd (omega arith)
 
-returns : tie.Need-returns
+pub returns : goal.returns
 returns c = spells c.ranges.x.fits c.ranges.y.fits c.ranges.z.fits
-
-pub spelled-spec : {M : Type 1} → statement M
-spelled-spec =
-    tie.close
-    (tie.spec (λ c. search rules) (λ c. search rules) (λ c. search rules) (λ c. search rules) (λ c. search rules) returns)

@@ -1,6 +1,6 @@
 -- `double` meets its contract: the line of site 2^m has a single one, the pattern has the symbols there by turns, and `add` adds it. The
 -- widths two and three differ in how the pattern is filled alone.
-use mathlib.Core.Logic.{inl, inr, ⊎_elim}
+use mathlib.Core.Logic.{◌⊎◌, inl, inr}
 use mathlib.Core.Path.{◌≡◌, sym, ap, ap₂, ◌∙◌}
 use mathlib.Core.List.{List, [], ◌∷◌}
 use Prim.Native.Nat.{ℕ, suc, ◌+◌, ◌-◌, ◌*◌, ◌/◌, ◌%◌, ◌^◌, ◌≤◌, ◌<◌}
@@ -8,7 +8,6 @@ use native.Mathlib.Nat.{le_refl, mod-lt, lt_of_lt_of_le, mul-le-mul_left, mul_co
 use native.Mathlib.Nat.{div-add-mod', mul-add-mod_self_right}
 use native.Mathlib.Decide.{dec_lt}
 use native.Mathlib.Omega.{arith}
-use borrow.Author.Rules.{rules}
 use lib.Arith.{digits_mod}
 use lib.Bits.{bit_xor}
 use lib.ListN.{length, get_or}
@@ -19,13 +18,12 @@ use Rattle.squares.specs.Symbols.{from_digits}
 use Rattle.squares.specs.Lines.{parity}
 use Rattle.squares.proofs.Binary.{site_parities, unit_line}
 use Rattle.squares.proofs.Linear.{symbol_lt}
-use Rattle.squares.proofs.double.Statement.{statement}
-use Rattle.squares.proofs.double.Tie as tie
+use Rattle.squares.proofs.double.Goals as goal
 
 -- the symbol at site 2^m, from its line; it is a byte
-unit-symbol : (n m : ℕ) {f x : ℕ} → n < 7 → m < 2 * n → f < 2 ^ suc n → x ≡ from_digits 2 n (parity f (1 * 2 ^ (2 * n - 1 - m) % 2 ^ 64))
+unit_symbol : (n m : ℕ) {f x : ℕ} → n < 7 → m < 2 * n → f < 2 ^ suc n → x ≡ from_digits 2 n (parity f (1 * 2 ^ (2 * n - 1 - m) % 2 ^ 64))
     → (x ≡ at_site n f (2 ^ m)) × (x < 2 ^ 8)
-unit-symbol n m {f} {x} h l f_lt e =
+unit_symbol n m {f} {x} h l f_lt e =
     let place : 2 * n - 1 - m ≡ n + n - suc m = omega arith in
     let line : 1 * 2 ^ (2 * n - 1 - m) % 2 ^ 64 ≡ 2 ^ (n + n - suc m) =
     one_shl 64 (2 * n - 1 - m) (omega arith) ∙ ap (λ (v : ℕ). 2 ^ v) place in
@@ -45,8 +43,8 @@ module _ (width m : ℕ) (m-few : m < 12) where
   size_few : width * 2 ^ m ≤ width * 2 ^ 11
   size_few = mul-le-mul_left width (pow_mono {i = m} {j = 11} (omega arith))
 
-  whole-size : 0 < width → Whole (64 * width) (width * 2 ^ m)
-  whole-size some = elim (dec_lt m 6) [
+  whole_size : 0 < width → Whole (64 * width) (width * 2 ^ m)
+  whole_size some = elim (dec_lt m 6) [
     | yes l ↦ inl (let most : width * 2 ^ m ≤ width * 2 ^ 5 = mul-le-mul_left width (pow_mono {i = m} {j = 5} (omega arith)) in omega arith)
     | no l ↦ inr (blocks (m - 6) (omega arith))
   ]
@@ -62,7 +60,7 @@ module _ (width m : ℕ) (m-few : m < 12) where
   asked : {len size : ℕ} → 0 < width → width < 4 → size ≡ width → 2 * (size * 2 ^ m) ≤ len
       → (width * 2 ^ m % 2 ^ 64 ≤ 6144) × (2 * (width * 2 ^ m % 2 ^ 64) ≤ len) × (0 < 64 * width) × (64 * width ≤ 192)
       × Whole (64 * width) (width * 2 ^ m % 2 ^ 64)
-  asked some few e room = rw (size_is few) (omega (arith, size_few), rw e at room, omega arith, omega arith, whole-size some)
+  asked some few e room = rw (size_is few) (omega (arith, size_few), rw e at room, omega arith, omega arith, whole_size some)
 
 -- what the pattern adds
 module _ (symbols : List ℕ) (some : 0 < length symbols) where
@@ -90,89 +88,43 @@ module _ (symbols : List ℕ) (some : 0 < length symbols) where
         high = a.high;
       }
 
-abbrev entry : tie.After-symbols-of → tie.Start
-entry c = c.before.before
+-- a width that is not two
+three : {width : ℕ} → (width ≡ 2) ⊎ (width ≡ 3) → (width ≡ 2 → ⊥) → width ≡ 3
+three (inl e) ne = absurd (ne e)
+three (inr e) ne = e
 
--- the symbols of f and of g, and that of h
-first : (c : tie.After-symbols-of)
-    → let a = (entry c).args in
-    let x : ℕ = c.symbols-of.result.first in
-    (x ≡ at_site a.n a.f (2 ^ a.m)) × (x < 2 ^ 8)
-first c =
-    let s = entry c in
-    unit-symbol s.args.n s.args.m s.pre.0.few s.pre.1 s.pre.0.f_small c.symbols-of.ensures.0
+pub overflow_cast-unit : goal.overflow_cast-unit
+overflow_cast-unit c = record { fits = (unit_symbol c.args.n c.args.m c.requires.0.few c.requires.1 c.requires.0.f_small c.symbols_of-unit.ensures.0).1 }
 
-second : (c : tie.After-symbols-of)
-    → let a = (entry c).args in
-    let x : ℕ = c.symbols-of.result.second in
-    (x ≡ at_site a.n a.g (2 ^ a.m)) × (x < 2 ^ 8)
-second c =
-    let s = entry c in
-    unit-symbol s.args.n s.args.m s.pre.0.few s.pre.1 s.pre.0.g_small c.symbols-of.ensures.1
+pub overflow_cast-unit-then-width-eq2 : goal.overflow_cast-unit-then-width-eq2
+overflow_cast-unit-then-width-eq2 c = record { fits = (unit_symbol c.args.n c.args.m c.requires.0.few c.requires.1 c.requires.0.g_small c.symbols_of-unit.ensures.1).1 }
 
-third : (c : tie.After-symbols-of2)
-    → let a = (entry c.before.before).args in
-    let x : ℕ = c.symbols-of2.result.first in
-    (x ≡ at_site a.n a.h (2 ^ a.m)) × (x < 2 ^ 8)
-third c =
-    let s = entry c.before.before in
-    unit-symbol s.args.n s.args.m s.pre.0.few s.pre.1 s.pre.0.h_small c.symbols-of2.ensures.0
+pub add-requires : goal.add-requires
+add-requires c =
+    asked 2 c.args.m (omega (arith, c.requires.0.few, c.requires.1)) (omega arith) (omega arith) c.if-width-eq2.true c.requires.2
 
-m-few : (s : tie.Start) → s.args.m < 12
-m-few s = omega (arith, s.requires.0.few, s.requires.1)
+pub returns-then-width-eq2 : goal.returns-then-width-eq2
+returns-then-width-eq2 c =
+    let symbols = ap₂ (λ (x y : ℕ). x ∷ y ∷ []) (unit_symbol c.args.n c.args.m c.requires.0.few c.requires.1 c.requires.0.f_small c.symbols_of-unit.ensures.0).0 (unit_symbol c.args.n c.args.m c.requires.0.few c.requires.1 c.requires.0.g_small c.symbols_of-unit.ensures.1).0 in
+    rw (c.if-width-eq2.true, ← symbols)
+    (doubled _ (omega arith) (omega (arith, c.requires.0.few, c.requires.1)) (omega arith) c.by_twos-pattern.ensures c.add.ensures)
 
-three : (c : tie.Else1) → (entry c.before).args.width ≡ 3
-three c = ⊎_elim (λ two. absurd (c.if1.false two)) (λ e. e) (entry c.before).requires.0.two_or_three
+pub overflow_cast-unit-2 : goal.overflow_cast-unit-2
+overflow_cast-unit-2 c = record { fits = (unit_symbol c.args.n c.args.m c.requires.0.few c.requires.1 c.requires.0.f_small c.symbols_of-unit.ensures.0).1 }
 
-cast-by-twos : tie.Need-overflow-cast-by-twos
-cast-by-twos c = record { fits = (first c.before.before).1 }
+pub overflow_cast-unit-3 : goal.overflow_cast-unit-3
+overflow_cast-unit-3 c = record { fits = (unit_symbol c.args.n c.args.m c.requires.0.few c.requires.1 c.requires.0.g_small c.symbols_of-unit.ensures.1).1 }
 
-cast-by-twos-2 : tie.Need-overflow-cast-by-twos-2
-cast-by-twos-2 c = record { fits = (second c.before.before.before).1 }
+pub overflow_cast-third : goal.overflow_cast-third
+overflow_cast-third c = record { fits = (unit_symbol c.args.n c.args.m c.requires.0.few c.requires.1 c.requires.0.h_small c.symbols_of-third.ensures.0).1 }
 
-add-requires : tie.Need-add-requires
-add-requires c κs =
-    let then = c.before.before.before.before.before in
-    let s = entry then.before in
-    asked 2 s.args.m (m-few s) (omega arith) (omega arith) then.if1.true s.pre.2
+pub add-requires-2 : goal.add-requires-2
+add-requires-2 c =
+    asked 3 c.args.m (omega (arith, c.requires.0.few, c.requires.1)) (omega arith) (omega arith) (three c.requires.0.two_or_three c.if-width-eq2.false) c.requires.2
 
-returns : tie.Need-returns
+pub returns : goal.returns
 returns c =
-    let made = c.before.before.before.before.before in
-    let then = made.before.before.before in
-    let symbols = ap₂ (λ (x y : ℕ). x ∷ y ∷ []) (first then.before).0 (second then.before).0 in
-    rw (then.if1.true, ← symbols)
-    (doubled _ (omega arith) (m-few (entry then.before)) (omega arith) made.by-twos.ensures c.before.before.add.ensures)
-
-cast-by-threes : tie.Need-overflow-cast-by-threes
-cast-by-threes c = record { fits = (first c.before.before.before).1 }
-
-cast-by-threes-2 : tie.Need-overflow-cast-by-threes-2
-cast-by-threes-2 c = record { fits = (second c.before.before.before.before).1 }
-
-cast-by-threes-3 : tie.Need-overflow-cast-by-threes-3
-cast-by-threes-3 c = record { fits = (third c.before.before.before).1 }
-
-add-requires-2 : tie.Need-add-requires-2
-add-requires-2 c κs =
-    let else = c.before.before.before.before.before.before.before in
-    let s = entry else.before in
-    asked 3 s.args.m (m-few s) (omega arith) (omega arith) (three else) s.pre.2
-
-returns-2 : tie.Need-returns-2
-returns-2 c =
-    let made = c.before.before.before.before.before in
-    let last = made.before.before.before.before in
-    let else = last.before in
-    let symbols = ap₂ (λ (x : ℕ) (rest : List ℕ). x ∷ rest) (first else.before).0
-    (ap₂ (λ (y z : ℕ). y ∷ z ∷ []) (second else.before).0 (third last).0) in
-    rw (three else, ← symbols)
-    (doubled _ (omega arith) (m-few (entry else.before)) (omega arith) made.by-threes.ensures c.before.before.add2.ensures)
-
-pub double-spec : {M : Type 1} → statement M
-double-spec =
-    tie.close
-    (tie.spec (λ c. search rules) (λ c. search rules) (λ c. search rules) (λ c. search rules) (λ c. search rules) (λ c κs. search rules)
-    cast-by-twos cast-by-twos-2 (λ c κs. search rules) (λ c. search rules) add-requires (λ c. search rules) returns (λ c κs. search rules)
-    cast-by-threes cast-by-threes-2 cast-by-threes-3 (λ c κs. search rules) (λ c. search rules) add-requires-2 (λ c. search rules)
-    returns-2)
+    let symbols = ap₂ (λ (x : ℕ) (rest : List ℕ). x ∷ rest) (unit_symbol c.args.n c.args.m c.requires.0.few c.requires.1 c.requires.0.f_small c.symbols_of-unit.ensures.0).0
+    (ap₂ (λ (y z : ℕ). y ∷ z ∷ []) (unit_symbol c.args.n c.args.m c.requires.0.few c.requires.1 c.requires.0.g_small c.symbols_of-unit.ensures.1).0 (unit_symbol c.args.n c.args.m c.requires.0.few c.requires.1 c.requires.0.h_small c.symbols_of-third.ensures.0).0) in
+    rw (three c.requires.0.two_or_three c.if-width-eq2.false, ← symbols)
+    (doubled _ (omega arith) (omega (arith, c.requires.0.few, c.requires.1)) (omega arith) c.by_threes-pattern.ensures c.add-2.ensures)

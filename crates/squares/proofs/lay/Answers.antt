@@ -4,15 +4,13 @@ use mathlib.Core.List.{List, []}
 use mathlib.Core.Path.{◌≡◌, refl, ap, ◌∙◌}
 use Prim.Native.Nat.{ℕ, ◌*◌, ◌%◌, ◌^◌, ◌≤◌, ◌<◌}
 use native.Mathlib.Omega.{arith}
-use borrow.Author.Rules.{rules}
 use borrow.Author.Tests.{lt-ltb, le-ltb}
 use lib.ListN.{length}
 use lib.Pow.{shl_exact}
 use Rattle.reply.specs.Reply.{Reply, served, refused, after}
 use Rattle.squares.specs.Doubling.{room_reply, Fillable}
 use Rattle.squares.proofs.Sheets.{square_is}
-use Rattle.squares.proofs.lay.Statement.{statement}
-use Rattle.squares.proofs.lay.Tie as tie
+use Rattle.squares.proofs.lay.Goals as goal
 
 -- the bytes of a sheet
 size_is : {n width f g h : ℕ} → Fillable n width f g h → width * 2 ^ (2 * n) % 2 ^ 64 ≡ width * 4 ^ n
@@ -32,23 +30,16 @@ module _ (width n : ℕ) (lent new : List ℕ) where
       → let room : Reply = room_reply width n (length lent) in (served [] ≡ room) × (out ≡ after room new lent)
   long l is = rw (le-ltb (length lent) (width * 4 ^ n) l) (refl, is)
 
-returns : tie.Need-returns
+pub returns-then-out-width : goal.returns-then-out-width
+returns-then-out-width c =
+    let (told, kept) = short c.args.width c.args.n c.args.out.now _ (omega (arith, size_is c.requires, c.if-out-width.true)) in
+    record { result_value = told; out_after = kept }
+
+pub fill-requires : goal.fill-requires
+fill-requires c = (c.requires, omega (arith, size_is c.requires, c.if-out-width.false))
+
+pub returns : goal.returns
 returns c =
-    let s = c.before.before in
-    short s.args.width s.args.n s.args.out.now _ (omega (arith, size_is s.requires, c.if1.true))
-
-enough : (c : tie.Else1) → let a = c.before.before.args in a.width * 4 ^ a.n ≤ length a.out.now
-enough c = omega (arith, size_is c.before.before.requires, c.if1.false)
-
-fill-requires : tie.Need-fill-requires
-fill-requires c κs = (c.before.before.before.requires, enough c.before)
-
-returns-2 : tie.Need-returns-2
-returns-2 c =
-    let else = c.before.before.before.before in
-    let a = else.before.before.args in
-    long a.width a.n a.out.now _ (enough else) c.before.before.fill.ensures
-
-pub lay-spec : {M : Type 1} → statement M
-lay-spec =
-    tie.close (tie.spec (λ c. search rules) (λ c. search rules) (λ c. search rules) returns fill-requires (λ c. search rules) returns-2)
+    let a = c.args in
+    let (told, filled) = long a.width a.n a.out.now _ (omega (arith, size_is c.requires, c.if-out-width.false)) c.fill.ensures in
+    record { result_value = told; out_after = filled }

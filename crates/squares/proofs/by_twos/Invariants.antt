@@ -1,0 +1,11 @@
+-- `by_twos` meets its contract. The invariant: the first i sites have their symbols.
+use mathlib.Core.List.{[], ◌∷◌}
+use Prim.Native.Nat.{◌-◌}
+use Rattle.squares.proofs.Patterns.{Begun}
+use Rattle.squares.proofs.by_twos.Given as goal
+
+abbrev pub invariant-loop-i : goal.invariant-loop-i
+invariant-loop-i l = Begun (l.f ∷ l.g ∷ []) l.pattern l.i
+
+abbrev pub decreases-loop-i : goal.decreases-loop-i
+decreases-loop-i l = 64 - l.i
