@@ -1,0 +1,183 @@
+use mathlib.Core.List.{List}
+use mathlib.Core.Path.{◌≡◌, refl, sym, ap, ◌∙◌}
+use Prim.Native.Nat.{ℕ, ◌+◌, ◌*◌, ◌/◌, ◌^◌, ◌<◌}
+use native.Mathlib.Omega.{arith}
+use Rattle.squares.specs.Sheets.{shown}
+use Rattle.sheets.specs.Inner.{InRange, by_turns}
+use Rattle.sheets.proofs.Reading.{Readable, readable, first_shown, second_shown, single, turn_one, turn_other}
+use Rattle.sheets.proofs.Reading.{met_next, row_full, put_two}
+use Rattle.sheets.proofs.two_rows.Goals as goal
+
+pub loop-col-init : goal.loop-col-init
+loop-col-init c = (omega arith, refl, refl, refl, refl, refl, refl, refl)
+
+-- The two sites of a turn.
+record Sites (N : ℕ) (bytes : List ℕ) (row next col : ℕ) : Type 0 where
+  one : Readable N bytes row col
+  other : Readable N bytes next col
+  inside : col < N
+
+here : {N : ℕ} {bytes : List ℕ} {row next col : ℕ} → InRange N bytes → row < N → next < N → col < N → Sites N bytes row next col
+here in_range row next inside =
+    record { one = readable in_range row inside; other = readable in_range next inside; inside = inside }
+
+pub loop-col-preserved : goal.loop-col-preserved
+loop-col-preserved c =
+    let a = c.args in
+    let N = a.order in
+    let bytes = a.sheet.now in
+    let col = c.loop-col.col in
+    let inv = c.loop-col.invariant in
+    let site = here c.requires.0 c.requires.1 c.requires.2 c.loop-col-test.true in
+    let singles = c.requires.3 in
+    let f = first_shown N bytes a.row col in
+    let h = first_shown N bytes a.next col in
+    let f1 = single singles site.one.first f in
+    let g1 = single singles site.one.second (second_shown N bytes a.row col) in
+    let h1 = single singles site.other.first h in
+    let k1 = single singles site.other.second (second_shown N bytes a.next col) in
+    let turns : ℕ → ℕ → ℕ = λ k. by_turns N bytes k a.row a.next in
+    let one : (k : ℕ) → 2 ^ shown 2 N k bytes a.row col ≡ 2 ^ turns k (2 * col) =
+    λ k. ap (λ (s : ℕ). 2 ^ s) (sym (turn_one N bytes k a.row a.next col)) in
+    let other : (k : ℕ) → 2 ^ shown 2 N k bytes a.next col ≡ 2 ^ turns k (2 * col + 1) =
+    λ k. ap (λ (s : ℕ). 2 ^ s) (sym (turn_other N bytes k a.row a.next col)) in
+    let half : col ≡ 2 * col / 2 = omega arith in
+    let half' : col ≡ (2 * col + 1) / 2 = omega arith in (
+      omega (arith, c.loop-col-test.true),
+      met_next (shown 2 N 0 bytes a.row) col inv.1 f1,
+      met_next (shown 2 N 1 bytes a.row) col inv.2 g1,
+      met_next (shown 2 N 0 bytes a.next) col inv.3 h1,
+      met_next (shown 2 N 1 bytes a.next) col inv.4 k1,
+      c.put_two.ensures
+          ∙ put_two (λ j. j / 2) (turns 0) a.firsts.now col inv.5 half (f1 ∙ one 0) half' (h1 ∙ other 0),
+      c.put_two-in-loop-col.ensures
+          ∙ put_two (λ j. j / 2) (turns 1) a.seconds.now col inv.6 half (g1 ∙ one 1) half' (k1 ∙ other 1),
+      c.put_two-in-loop-col-2.ensures
+          ∙ put_two (turns 0) (turns 1) a.pairs.now col inv.7 (f ∙ sym (turn_one N bytes 0 a.row a.next col)) (g1 ∙ one 1)
+          (h ∙ sym (turn_other N bytes 0 a.row a.next col)) (k1 ∙ other 1),
+    )
+
+pub both_full-requires : goal.both_full-requires
+both_full-requires c = let in_range = c.requires.0 in (in_range.some, in_range.few)
+
+pub returns-then-not-both_full : goal.returns-then-not-both_full
+returns-then-not-both_full c =
+    let loop = c.loop-col in
+    let (in_range, row, _, _) = c.requires in
+    let all : loop.col ≡ c.args.order = omega (arith, c.loop-col-test.false) in
+    let fails = sym (row_full in_range c.args.row row all loop.invariant.1 loop.invariant.2) ∙ sym c.both_full.ensures
+    ∙ c.if-not-both_full.true in
+    record {
+      value = rw fails;
+      firsts_after = rw all at loop.invariant.5;
+      seconds_after = rw all at loop.invariant.6;
+      pairs_after = rw all at loop.invariant.7;
+    }
+
+pub both_full-requires-2 : goal.both_full-requires-2
+both_full-requires-2 c = let in_range = c.requires.0 in (in_range.some, in_range.few)
+
+pub returns : goal.returns
+returns c =
+    let loop = c.loop-col in
+    let (in_range, row, next, _) = c.requires in
+    let all : loop.col ≡ c.args.order = omega (arith, c.loop-col-test.false) in
+    let passes = sym (row_full in_range c.args.row row all loop.invariant.1 loop.invariant.2)
+    ∙ sym c.both_full.ensures
+    ∙ c.if-not-both_full.false in
+    let second = c.both_full-2.ensures ∙ row_full in_range c.args.next next all loop.invariant.3 loop.invariant.4 in
+    record {
+      value = rw passes second;
+      firsts_after = rw all at loop.invariant.5;
+      seconds_after = rw all at loop.invariant.6;
+      pairs_after = rw all at loop.invariant.7;
+    }
+
+pub overflow_mul-start : goal.overflow_mul-start
+overflow_mul-start c = let (in_range, row, _, _) = c.requires in record { fits = omega (arith, readable in_range row in_range.some) }
+
+pub overflow_mul-start_next : goal.overflow_mul-start_next
+overflow_mul-start_next c = let (in_range, _, next, _) = c.requires in record { fits = omega (arith, readable in_range next in_range.some) }
+
+pub overflow_add-at : goal.overflow_add-at
+overflow_add-at c = record { fits = omega (arith, here c.requires.0 c.requires.1 c.requires.2 c.loop-col-test.true) }
+
+pub overflow_mul-at : goal.overflow_mul-at
+overflow_mul-at c = record { fits = omega (arith, here c.requires.0 c.requires.1 c.requires.2 c.loop-col-test.true) }
+
+pub overflow_add-at_next : goal.overflow_add-at_next
+overflow_add-at_next c = record { fits = omega (arith, here c.requires.0 c.requires.1 c.requires.2 c.loop-col-test.true) }
+
+pub overflow_mul-at_next : goal.overflow_mul-at_next
+overflow_mul-at_next c = record { fits = omega (arith, here c.requires.0 c.requires.1 c.requires.2 c.loop-col-test.true) }
+
+pub bounds-sheet-at : goal.bounds-sheet-at
+bounds-sheet-at c = omega (arith, here c.requires.0 c.requires.1 c.requires.2 c.loop-col-test.true)
+
+pub overflow_cast-a : goal.overflow_cast-a
+overflow_cast-a c = record { fits = omega (arith, here c.requires.0 c.requires.1 c.requires.2 c.loop-col-test.true) }
+
+pub overflow_add-b : goal.overflow_add-b
+overflow_add-b c = record { fits = omega (arith, here c.requires.0 c.requires.1 c.requires.2 c.loop-col-test.true) }
+
+pub bounds-sheet-at-in-loop-col : goal.bounds-sheet-at-in-loop-col
+bounds-sheet-at-in-loop-col c = omega (arith, here c.requires.0 c.requires.1 c.requires.2 c.loop-col-test.true)
+
+pub overflow_cast-b : goal.overflow_cast-b
+overflow_cast-b c = record { fits = omega (arith, here c.requires.0 c.requires.1 c.requires.2 c.loop-col-test.true) }
+
+pub bounds-sheet-at_next : goal.bounds-sheet-at_next
+bounds-sheet-at_next c = omega (arith, here c.requires.0 c.requires.1 c.requires.2 c.loop-col-test.true)
+
+pub overflow_cast-c : goal.overflow_cast-c
+overflow_cast-c c = record { fits = omega (arith, here c.requires.0 c.requires.1 c.requires.2 c.loop-col-test.true) }
+
+pub overflow_add-d : goal.overflow_add-d
+overflow_add-d c = record { fits = omega (arith, here c.requires.0 c.requires.1 c.requires.2 c.loop-col-test.true) }
+
+pub bounds-sheet-at_next-in-loop-col : goal.bounds-sheet-at_next-in-loop-col
+bounds-sheet-at_next-in-loop-col c = omega (arith, here c.requires.0 c.requires.1 c.requires.2 c.loop-col-test.true)
+
+pub bounds-single-a : goal.bounds-single-a
+bounds-single-a c = omega (arith, here c.requires.0 c.requires.1 c.requires.2 c.loop-col-test.true)
+
+pub overflow_cast-d : goal.overflow_cast-d
+overflow_cast-d c = record { fits = omega (arith, here c.requires.0 c.requires.1 c.requires.2 c.loop-col-test.true) }
+
+pub offset_bounds-single-a : goal.offset_bounds-single-a
+offset_bounds-single-a c = record { fits = omega (arith, here c.requires.0 c.requires.1 c.requires.2 c.loop-col-test.true) }
+
+pub offset_bounds-single-b : goal.offset_bounds-single-b
+offset_bounds-single-b c = record { fits = omega (arith, here c.requires.0 c.requires.1 c.requires.2 c.loop-col-test.true) }
+
+pub bounds-single-b : goal.bounds-single-b
+bounds-single-b c = omega (arith, here c.requires.0 c.requires.1 c.requires.2 c.loop-col-test.true)
+
+pub offset_bounds-single-c : goal.offset_bounds-single-c
+offset_bounds-single-c c = record { fits = omega (arith, here c.requires.0 c.requires.1 c.requires.2 c.loop-col-test.true) }
+
+pub bounds-single-c : goal.bounds-single-c
+bounds-single-c c = omega (arith, here c.requires.0 c.requires.1 c.requires.2 c.loop-col-test.true)
+
+pub offset_bounds-single-d : goal.offset_bounds-single-d
+offset_bounds-single-d c = record { fits = omega (arith, here c.requires.0 c.requires.1 c.requires.2 c.loop-col-test.true) }
+
+pub bounds-single-d : goal.bounds-single-d
+bounds-single-d c = omega (arith, here c.requires.0 c.requires.1 c.requires.2 c.loop-col-test.true)
+
+pub put_two-requires : goal.put_two-requires
+put_two-requires c = let sites = here c.requires.0 c.requires.1 c.requires.2 c.loop-col-test.true in (omega arith, omega arith)
+
+pub put_two-requires-in-loop-col : goal.put_two-requires-in-loop-col
+put_two-requires-in-loop-col c = let sites = here c.requires.0 c.requires.1 c.requires.2 c.loop-col-test.true in
+    (omega arith, omega arith)
+
+pub put_two-requires-in-loop-col-2 : goal.put_two-requires-in-loop-col-2
+put_two-requires-in-loop-col-2 c = let sites = here c.requires.0 c.requires.1 c.requires.2 c.loop-col-test.true in
+    (omega arith, omega arith)
+
+pub overflow_add-col : goal.overflow_add-col
+overflow_add-col c = let sites = here c.requires.0 c.requires.1 c.requires.2 c.loop-col-test.true in record { fits = omega arith }
+
+pub loop-col-smaller : goal.loop-col-smaller
+loop-col-smaller c = omega (arith, here c.requires.0 c.requires.1 c.requires.2 c.loop-col-test.true)
