@@ -1,6 +1,6 @@
 -- Demand 3, whole, with the marks, the bonders and the kept pair of document 02, requests c, g and h. It is about what the calls answer:
--- `startReply` and `started` are the reply and the record that the contract of start gives, `replyTo` and `recordAfter`, over which a list
--- of calls runs, are those of look, draw, setting a mark and going back, `pairAtReply`, `positionReply` and `siteReply` those of the pair
+-- `start_reply` and `started` are the reply and the record that the contract of start gives, `reply_to` and `record_after`, over which a list
+-- of calls runs, are those of look, draw, setting a mark and going back, `pair_at_reply`, `position_reply` and `site_reply` those of the pair
 -- call, the position call and the site call. The fields that name them tie the list of pairs and the squares to these calls.
 use Rattle.std.specs.Prelude.{◌↔◌, List, [], ◌∷◌, ◌≡◌, ℕ, ◌%◌, ◌^◌, ◌≤◌, ◌<◌, length}
 use Rattle.reply.specs.Reply.{served}
@@ -65,6 +65,6 @@ pub record Demand (n : ℕ) : Type 0 where
   pub crossing : (f g : ℕ) → Polynomial n f → Polynomial n g
       → Orthogonal (2 ^ n) (symbol 2 n f) (symbol 2 n g) ↔ Coprime 2 f g
 
--- At any degree n from 1 to 31, with L = 2(4^(n-1) - 1)/3, which is `listLength n`.
+-- At any degree n from 1 to 31, with L = 2(4^(n-1) - 1)/3, which is `list_length n`.
 abbrev pub DemandThree : Type 0
 DemandThree = (n : ℕ) → 1 ≤ n → n ≤ 31 → Demand n

@@ -1,7 +1,7 @@
 -- A trial's own promise, in demand 3's words, of any file that the reader accepts, of either version: in the sheet of its degree and codes
 -- each level of one of its lists meets each level of another at exactly one site. `read` is the reader's decision, over which its contract
--- gives reply and slices; `sheetReply` and `sheetBytes` are the reply and the lent bytes of the sheet call, and `sheet3Reply` and
--- `sheet3Bytes` those of the call with three codes.
+-- gives reply and slices; `sheet_reply` and `sheet_bytes` are the reply and the lent bytes of the sheet call, and `sheet3_reply` and
+-- `sheet3_bytes` those of the call with three codes.
 use Rattle.std.specs.Prelude.{cond, List, [], ◌≢◌, ◌≡◌, ℕ, suc, ◌*◌, ◌^◌, ◌≤◌, ◌<◌, eqb, length, get_or}
 use Rattle.reply.specs.Reply.{Reply, served}
 use Rattle.squares.specs.Squares.{Square, ExactlyOne, Site, On}

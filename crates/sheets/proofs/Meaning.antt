@@ -1,4 +1,4 @@
--- What the tests by counting mean: `isLatin` passes exactly the Latin squares, `isOrthogonal` the orthogonal ones, and what passes shows no
+-- What the tests by counting mean: `is_latin` passes exactly the Latin squares, `is_orthogonal` the orthogonal ones, and what passes shows no
 -- symbol but those below N.
 use mathlib.Core.Bool.{Bool, true, ◌&&◌}
 use mathlib.Core.Logic.Iff

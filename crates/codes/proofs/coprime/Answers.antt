@@ -1,4 +1,4 @@
--- `coprime` meets its contract: the bit read is the one that `coprime-bit` speaks of, since no bit of 2^(n-1) is lost.
+-- `coprime` meets its contract: the bit read is the one that `coprime_bit` speaks of, since no bit of 2^(n-1) is lost.
 use mathlib.Core.Bool.{Bool, true, false, cond}
 use mathlib.Core.Path.{◌≡◌, refl}
 use Prim.Native.Nat.{ℕ, ◌-◌, ◌*◌, ◌%◌, ◌^◌}
