@@ -4,8 +4,8 @@ use mathlib.Core.Bool.{Bool, true, false, not}
 use borrow.Author.Tests.{not-true, not-false}
 
 module _ (r b : Bool) (e : r ≡ not b) where
-  pub denied : not r ≡ true → b ≡ true
-  denied h = not-false b (sym e ∙ not-true r h)
+  pub denied : r ≡ false → b ≡ true
+  denied h = not-false b (sym e ∙ h)
 
-  pub upheld : not r ≡ false → b ≡ false
-  upheld h = not-true b (sym e ∙ not-false r h)
+  pub upheld : r ≡ true → b ≡ false
+  upheld h = not-true b (sym e ∙ h)

@@ -1,0 +1,73 @@
+-- `check_content` meets its contract: the head, the lists and the name are refused for their causes, one after the other.
+use mathlib.Core.Path.{◌≡◌, sym, subst}
+use mathlib.Core.List.{[], ◌∷◌}
+use Prim.Native.Nat.{ℕ, ◌^◌}
+use Rattle.reply.specs.Reply.{Reply, served, refused, unless}
+use Rattle.reply.proofs.Order.{NoneApplies, passed, failed, none_applies}
+use Rattle.trial.specs.Rules.{today}
+use Rattle.trial.specs.Trial.{Head, Trial, head_from, trial_from, head_causes}
+use Rattle.trial.specs.Replies.{list_causes, name_causes, body_causes, content_causes}
+use Rattle.trial.proofs.Order.{order_there, order_is}
+use Rattle.trial_writer.proofs.checks.check_content.Goals as goal
+
+head_clear : (head : Head) → served [] ≡ unless (head_causes today head) (served []) → NoneApplies (head_causes today head)
+head_clear head e = none_applies (head_causes today head) [] [] (sym e)
+
+module _ (t : Trial) where
+  refused_head : {number : ℕ} → refused number ≡ unless (head_causes today t.head) (served [])
+      → refused number ≡ unless (content_causes t) (served [])
+  unfolding content_causes
+  refused_head e = failed (body_causes t) (served []) (head_causes today t.head) e
+
+  module _ (head_passed : served [] ≡ unless (head_causes today t.head) (served [])) where
+    refused_lists : {number count : ℕ} → count ≡ 2 ^ t.head.degree → refused number ≡ unless (list_causes count t.lists) (served [])
+        → refused number ≡ unless (content_causes t) (served [])
+    unfolding content_causes
+    refused_lists {number} same e =
+        rw (passed (body_causes t) (served []) (head_causes today t.head) head_passed)
+        (failed (name_causes t.name) (served []) (list_causes (2 ^ t.head.degree) t.lists)
+        (subst (λ order. refused number ≡ unless (list_causes order t.lists) (served [])) same e))
+
+    name_decides : {reply : Reply} {count : ℕ} → count ≡ 2 ^ t.head.degree → served [] ≡ unless (list_causes count t.lists) (served [])
+        → reply ≡ unless (name_causes t.name) (served []) → reply ≡ unless (content_causes t) (served [])
+    unfolding content_causes
+    name_decides same lists_passed e =
+        let all_passed = subst (λ order. served [] ≡ unless (list_causes order t.lists) (served [])) same lists_passed in
+        rw (
+          passed (body_causes t) (served []) (head_causes today t.head) head_passed,
+          passed (name_causes t.name) (served []) (list_causes (2 ^ t.head.degree) t.lists) all_passed,
+        )
+        e
+
+pub returns-in_default : goal.returns-in_default
+returns-in_default c =
+    let a = c.args in
+    let clear = head_clear (head_from a.version a.degree (a.f ∷ a.g ∷ a.h ∷ [])) c.in-Passed.ensures in
+    absurd (order_there a.degree clear.1.0 c.in_default.ensures)
+
+pub check_lists-requires : goal.check_lists-requires
+check_lists-requires c =
+    let a = c.args in (head_clear (head_from a.version a.degree (a.f ∷ a.g ∷ a.h ∷ [])) c.in-Passed.ensures).0
+
+pub returns-in-Refused : goal.returns-in-Refused
+returns-in-Refused c =
+    let a = c.args in
+    let t : Trial =
+    trial_from a.version a.degree (a.f ∷ a.g ∷ a.h ∷ []) (a.powers.now ∷ a.forces.now ∷ a.times.now ∷ []) a.name.now in
+    refused_head t c.in-Refused.ensures
+
+pub returns-in-Refused-check_lists : goal.returns-in-Refused-check_lists
+returns-in-Refused-check_lists c =
+    let a = c.args in
+    let t : Trial =
+    trial_from a.version a.degree (a.f ∷ a.g ∷ a.h ∷ []) (a.powers.now ∷ a.forces.now ∷ a.times.now ∷ []) a.name.now in
+    let order = order_is a.degree (head_clear t.head c.in-Passed.ensures).1.0 c.in-Is.ensures in
+    refused_lists t c.in-Passed.ensures order c.in-Refused-check_lists.ensures
+
+pub returns-in-Passed-check_lists : goal.returns-in-Passed-check_lists
+returns-in-Passed-check_lists c =
+    let a = c.args in
+    let t : Trial =
+    trial_from a.version a.degree (a.f ∷ a.g ∷ a.h ∷ []) (a.powers.now ∷ a.forces.now ∷ a.times.now ∷ []) a.name.now in
+    let order = order_is a.degree (head_clear t.head c.in-Passed.ensures).1.0 c.in-Is.ensures in
+    name_decides t c.in-Passed.ensures order c.in-Passed-check_lists.ensures c.check_name.ensures
