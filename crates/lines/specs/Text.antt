@@ -1,6 +1,5 @@
 -- The lines that the list program prints, as lists of bytes.
-use Rattle.std.specs.Prelude.{◌≡◌, ℕ, zero, suc, ◌+◌, ◌/◌, ◌%◌, List, [], ◌∷◌, ◌++◌, length, take, drop}
-use Rattle.io.specs.Counts.{IsPrefixLen}
+use Rattle.std.specs.Prelude.{◌≡◌, ℕ, zero, suc, ◌+◌, ◌/◌, ◌%◌, ◌≤◌, List, [], ◌∷◌, ◌++◌, length, take, drop}
 use Rattle.reply.specs.Reply.{Reply, served, refused, spent}
 
 -- The decimal digits of a number, in ASCII, where 0 has none. The first number is fuel; the number itself is enough.
@@ -27,6 +26,10 @@ put out at bytes = take at out ++ bytes ++ drop (at + length bytes) out
 pub record Placed (out : List ℕ) (at : ℕ) (bytes : List ℕ) (r : ℕ) (out' : List ℕ) : Type 0 where
   pub next : r ≡ at + length bytes
   pub after : out' ≡ put out at bytes
+
+-- `&xs[..n]` is within the slice and has n bytes.
+abbrev pub IsPrefixLen : ℕ → List ℕ → Type 0
+IsPrefixLen n xs = (n ≤ length xs) × (n ≡ length (take n xs))
 
 -- What a function that makes lines promises: the bytes stand at the front of `out`, and the answer is how many there are.
 pub record Lined (out bytes : List ℕ) (r : ℕ) (out' : List ℕ) : Type 0 where

@@ -3,39 +3,41 @@ use crate::entry::first_line;
 use crate::fill::fill_lines;
 use crate::input::{Asked, degree_in};
 use crate::text::refusal_line;
+use std::io;
+use std::io::Write;
 
 // Answers the whole input of the program.
-pub fn answer(fd: i32, input: &[u8]) {
+pub fn answer<W: Write>(out: &mut W, input: &[u8]) -> io::Result<()> {
     match degree_in(input) {
-        Asked::Refused(refusal) => refuse(fd, refusal.number()),
-        Asked::Degree(n) => print_list(fd, n),
+        Asked::Refused(refusal) => refuse(out, refusal.number()),
+        Asked::Degree(n) => print_list(out, n),
     }
 }
 
-fn refuse(fd: i32, number: u32) {
+fn refuse<W: Write>(out: &mut W, number: u32) -> io::Result<()> {
     let mut line = [0u8; 64];
     let size = refusal_line(number, &mut line);
-    io::write_all(fd, &line[..size]);
+    out.write_all(&line[..size])
 }
 
-fn print_list(fd: i32, n: u32) {
+fn print_list<W: Write>(out: &mut W, n: u32) -> io::Result<()> {
     let mut line = [0u8; 64];
     let size = first_line(n, &mut line);
-    io::write_all(fd, &line[..size]);
-    print_entries(fd, n);
+    out.write_all(&line[..size])?;
+    print_entries(out, n)
 }
 
 // A large buffer, since a call of the system for each line would take most of the time. Only the list's end leaves it empty.
-fn print_entries(fd: i32, n: u32) {
-    let mut buffer = io::large_buffer();
+fn print_entries<W: Write>(out: &mut W, n: u32) -> io::Result<()> {
+    let mut buffer = [0u8; 65536];
     let mut position: u64 = 0;
     loop {
         let filling = fill_lines(n, position, &mut buffer);
         let used = filling.used;
         if used == 0 {
-            return;
+            return Ok(());
         }
-        io::write_all(fd, &buffer[..used]);
+        out.write_all(&buffer[..used])?;
         position = filling.next;
     }
 }

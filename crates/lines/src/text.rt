@@ -42,9 +42,8 @@ fn field(n: u64, end: u8, out: &mut [u8], at: usize) -> usize
     ensures placed { Placed out.old at (decimal n ++ (end ∷ [])) result out.new }
     ensures upper_bound { result ≤ at + 21 }
 {
-    let mut text = [0u8; 20];
-    let size = io::decimal(n, &mut text);
-    let next = copy(&text[..size], out, at);
+    let mut digits = itoa::Buffer::new();
+    let next = copy(digits.format(n).as_bytes(), out, at);
     out[next] = end;
     next + 1
 }

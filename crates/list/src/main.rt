@@ -1,11 +1,29 @@
 // The list program of document 01: reads a degree from standard input and prints the list of its coprime pairs.
 #![tactic(auto)]
 
-use libc::{STDIN_FILENO, STDOUT_FILENO};
+ghost use Rattle.std.specs.Prelude.{◌≤◌, length, IfOk};
 
-fn main() {
+use std::io;
+use std::io::Read;
+
+// Reads until the slice is full or the input ends, and gives how many bytes it put at the slice's front.
+fn read_full<R: Read>(input: &mut R, bytes: &mut [u8]) -> io::Result<usize>
+    ensures { IfOk result (λ n. n ≤ length bytes.new) }
+{
+    let mut done: usize = 0;
+    while done < bytes.len() {
+        let more = input.read(&mut bytes[done..])?;
+        if more == 0 {
+            return Ok(done);
+        }
+        done += more;
+    }
+    Ok(done)
+}
+
+fn main(rt: HostRuntime) -> io::Result<()> {
     // The longest input that is not refused has three bytes; with a fourth, any input is refused.
     let mut input = [0u8; 4];
-    let size = io::read_full(STDIN_FILENO, &mut input);
-    lines::answer(STDOUT_FILENO, &input[..size]);
+    let size = read_full(&mut rt.stdin(), &mut input)?;
+    lines::answer(&mut io::writer(&rt), &input[..size])
 }

@@ -5,28 +5,28 @@
 
 ghost use Rattle.std.specs.Prelude.{◌<◌};
 
-use libc::STDOUT_FILENO;
+use std::io;
 
 // The input of a case on a line of its own, with its end marked, and then what the program answers.
-fn case(input: &[u8]) {
-    io::write_all(STDOUT_FILENO, b"input ");
-    io::write_all(STDOUT_FILENO, input);
-    io::write_all(STDOUT_FILENO, b"|\n");
-    lines::answer(STDOUT_FILENO, input);
+fn case(rt: &impl Print, input: &[u8]) -> io::Result<()> {
+    rt.write_all(b"input ")?;
+    rt.write_all(input)?;
+    rt.write_all(b"|\n")?;
+    lines::answer(&mut io::writer(rt), input)
 }
 
 // The same for an input whose list is long.
-fn long_case(input: &[u8]) {
-    io::write_all(STDOUT_FILENO, b"input ");
-    io::write_all(STDOUT_FILENO, input);
-    io::write_all(STDOUT_FILENO, b"|\n");
+fn long_case(rt: &impl Print, input: &[u8]) -> io::Result<()> {
+    rt.write_all(b"input ")?;
+    rt.write_all(input)?;
+    rt.write_all(b"|\n")?;
     let lines::Asked::Degree(n) = lines::degree_in(input) else {
-        return;
+        return Ok(());
     };
     let poly::Count::Is(count) = (poly::Degree { n }).list_length() else {
-        return;
+        return Ok(());
     };
-    summary(n, count);
+    summary(rt, n, count)
 }
 
 fn wide(byte: u8) -> u64
@@ -46,22 +46,22 @@ fn mixed(sum: u64, bytes: &[u8]) -> u64 {
     total
 }
 
-fn show(n: u32, position: u64) {
+fn show(rt: &impl Print, n: u32, position: u64) -> io::Result<()> {
     let mut text = [0u8; 64];
     let size = lines::entry_line(n, position, &mut text);
-    io::write_all(STDOUT_FILENO, &text[..size]);
+    rt.write_all(&text[..size])
 }
 
-fn first_line(n: u32) -> u64 {
+fn first_line(rt: &impl Print, n: u32) -> io::Result<u64> {
     let mut text = [0u8; 64];
     let size = lines::first_line(n, &mut text);
-    io::write_all(STDOUT_FILENO, &text[..size]);
-    mixed(0, &text[..size])
+    rt.write_all(&text[..size])?;
+    Ok(mixed(0, &text[..size]))
 }
 
 // The checksum of all the lines of a degree, one filling after the other.
 fn checksum(n: u32, first: u64) -> u64 {
-    let mut buffer = io::large_buffer();
+    let mut buffer = [0u8; 65536];
     let mut sum = first;
     let mut position: u64 = 0;
     loop {
@@ -75,31 +75,31 @@ fn checksum(n: u32, first: u64) -> u64 {
     }
 }
 
-fn summary(n: u32, count: u64) {
-    let first = first_line(n);
-    show(n, 0);
+fn summary(rt: &impl Print, n: u32, count: u64) -> io::Result<()> {
+    let first = first_line(rt, n)?;
+    show(rt, n, 0)?;
     if 0 < count {
-        show(n, count - 1);
+        show(rt, n, count - 1)?;
     }
     let sum = checksum(n, first);
-    io::write_all(STDOUT_FILENO, b"checksum ");
-    io::print_decimal(STDOUT_FILENO, sum);
-    io::write_all(STDOUT_FILENO, b"\n");
+    rt.write_all(b"checksum ")?;
+    print!(rt; "{sum}")?;
+    rt.write_all(b"\n")
 }
 
-fn main() {
-    case(b"2\n");
-    long_case(b"10\n");
-    case(b"0\n");
-    case(b"11\n");
-    case(b"");
-    case(b"3");
-    case(b"+3\n");
-    case(b"03\n");
-    case(b"003\n");
-    case(b"3\n\n");
-    case(b"10\nx");
-    case(b"1\n");
-    case(b"3\n");
-    case(b"6\n");
+fn main(rt: HostRuntime) -> io::Result<()> {
+    case(&rt, b"2\n")?;
+    long_case(&rt, b"10\n")?;
+    case(&rt, b"0\n")?;
+    case(&rt, b"11\n")?;
+    case(&rt, b"")?;
+    case(&rt, b"3")?;
+    case(&rt, b"+3\n")?;
+    case(&rt, b"03\n")?;
+    case(&rt, b"003\n")?;
+    case(&rt, b"3\n\n")?;
+    case(&rt, b"10\nx")?;
+    case(&rt, b"1\n")?;
+    case(&rt, b"3\n")?;
+    case(&rt, b"6\n")
 }
