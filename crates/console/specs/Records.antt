@@ -7,7 +7,7 @@ use Rattle.trial_reader.specs.Answers.{read_into}
 use Rattle.walk.specs.declared.Walk.{Walk}
 use Rattle.walk.specs.Walks.{begun, start_reply, look_reply, draw_reply, after_draw, set_mark_reply, after_set_mark, go_back_reply, after_go_back}
 use Rattle.saved.specs.Saved.{load}
-use Rattle.saved.specs.Replies.{save_reply, file_after as savedAfter, load_reply, record_read}
+use Rattle.saved.specs.Replies.{save_reply, file_after as saved_after, load_reply, record_read}
 use Rattle.console.specs.Status.{status, value}
 
 -- The reply to reading a file with these slices lent for the levels: degree, f, g, the name's offset and length, the version and, in
@@ -46,7 +46,7 @@ pub record Writes (reply : Reply) (written : List ℕ) (size : ℕ) (out' : List
 
 -- Saving a walk, with the slice before it.
 abbrev pub WalkSaved : Walk → List ℕ → ℕ → List ℕ → ℕ → ℕ → Type 0
-WalkSaved walk out = Writes (save_reply walk (length out)) (savedAfter walk out)
+WalkSaved walk out = Writes (save_reply walk (length out)) (saved_after walk out)
 
 -- A call that gives a pair: what it returns, and what stands behind the two pointers after it, with what stood there before.
 pub record Gives (reply : Reply) (f g f' g' r : ℕ) : Type 0 where
