@@ -122,10 +122,12 @@ pub extern "C" fn dw_start(n: u32, walk: &mut Walk) -> u32
     let outcome = started(n);
     if outcome.status == 0 {
         // Field by field, so that no padding is copied: the compiler then writes the record at once.
+        let marks = outcome.walk.marks;
+        let counts = outcome.walk.counts;
         walk.degree = outcome.walk.degree;
         walk.position = outcome.walk.position;
-        walk.marks = outcome.walk.marks;
-        walk.counts = outcome.walk.counts;
+        walk.marks = marks;
+        walk.counts = counts;
         walk.f = outcome.walk.f;
         walk.g = outcome.walk.g;
     }
@@ -150,8 +152,9 @@ pub extern "C" fn dw_draw(walk: &mut Walk, bonder: u32, f: &mut u32, g: &mut u32
     let outcome = drawn(here, bonder, f, g);
     if outcome.status == 0 {
         // All that a draw changes: the marks need not be written back.
+        let counts = outcome.walk.counts;
         walk.position = outcome.walk.position;
-        walk.counts = outcome.walk.counts;
+        walk.counts = counts;
         walk.f = outcome.walk.f;
         walk.g = outcome.walk.g;
     }
@@ -200,10 +203,12 @@ pub extern "C" fn dw_load(file: &[u8], walk: &mut Walk) -> u32
 {
     let outcome = loaded(file);
     if outcome.status == 0 {
+        let marks = outcome.walk.marks;
+        let counts = outcome.walk.counts;
         walk.degree = outcome.walk.degree;
         walk.position = outcome.walk.position;
-        walk.marks = outcome.walk.marks;
-        walk.counts = outcome.walk.counts;
+        walk.marks = marks;
+        walk.counts = counts;
         walk.f = outcome.walk.f;
         walk.g = outcome.walk.g;
     }
