@@ -5,17 +5,17 @@ use mathlib.Core.List.{[], ◌∷◌}
 use mathlib.Core.Path.{◌≡◌, sym, ap, ◌∙◌}
 use Prim.Native.Nat.{ℕ, ◌*◌, ◌/◌, ◌^◌, ◌≤◌, ◌<◌}
 use native.Mathlib.Omega.{arith}
-use borrow.Author.Rules.{rules}
 use borrow.Author.Tests.{le-leb}
 use Rattle.reply.specs.Reply.{served, refused}
 use Rattle.poly.specs.Limits.{outside, list_length}
+use Rattle.poly.specs.declared.limits.Count.{Count}
+use Rattle.poly.specs.declared.limits.Count.TheVariants.{Is}
 use Rattle.poly.specs.Replies.{count_reply, length_reply}
 use Rattle.poly.proofs.Ranges.{within, length_served, count_refused, list_length_lt}
 use Rattle.unordered.specs.Unordered.{unordered_length}
 use Rattle.unordered.specs.Replies.{unordered_reply}
 use Rattle.unordered.proofs.Calls.{doubled}
-use Rattle.unordered.proofs.pair_at.Statement.{statement}
-use Rattle.unordered.proofs.pair_at.Tie as tie
+use Rattle.unordered.proofs.pair_at.Goals as goal
 
 module _ (n entry : ℕ) where
   bad_degree : {k : ℕ} → refused k ≡ length_reply n → refused k ≡ unordered_reply n entry
@@ -34,39 +34,26 @@ module _ (n entry : ℕ) where
     fits h = omega (arith, known.1, list_length_lt n (within 1 31 known.0).1)
 
 -- the length that the degree answered
-answered : (c : tie.After-known-told2)
-    → served (c.before.length.given.0.0 ∷ []) ≡ length_reply c.before.before.before.before.args.n
-answered c = sym (ap count_reply c.before.length.given.1) ∙ c.before.before.before.list_length.ensures
+answered : (n : ℕ) {count : Count} {length : ℕ} → count ≡ Is length → count_reply count ≡ length_reply n
+    → served (length ∷ []) ≡ length_reply n
+answered n is e = sym (ap count_reply is) ∙ e
 
-returns : tie.Need-returns
-returns c =
-    let a = c.before.before.before.before.before.args in
-    bad-entry a.n a.entry _ (answered c.before) c.if1.true
+pub returns-then-length-entry : goal.returns-then-length-entry
+returns-then-length-entry c =
+    let a = c.args in
+    bad-entry a.n a.entry _ (answered a.n c.in-Is.is c.list_length.ensures) c.if-length-entry.true
 
-mul-position : tie.Need-overflow-mul-position
-mul-position c =
-    let a = c.before.before.before.before.before.args in
-    record { fits = fits a.n a.entry _ (answered c.before) c.if1.false }
+pub overflow_mul-position : goal.overflow_mul-position
+overflow_mul-position c =
+    let a = c.args in
+    record { fits = fits a.n a.entry _ (answered a.n c.in-Is.is c.list_length.ensures) c.if-length-entry.false }
 
-returns-2 : tie.Need-returns-2
-returns-2 c =
-    let a = c.before.before.before.before.args in
-    bad_degree a.n a.entry (sym (ap count_reply c.before.refusal.given.1) ∙ c.before.before.before.list_length.ensures)
+pub returns-in-Refused : goal.returns-in-Refused
+returns-in-Refused c =
+    let a = c.args in
+    bad_degree a.n a.entry (sym (ap count_reply c.in-Refused.is) ∙ c.list_length.ensures)
 
-returns-3 : tie.Need-returns-3
-returns-3 c =
-    let a = c.before.before.before.before.before.before.args in
-    c.pair-at.ensures ∙ sym (doubled a.n a.entry)
-
-pub pair-at-spec : {M : Type 1} → statement M
-pair-at-spec =
-    tie.close
-    (tie.spec
-    (λ c κs. search rules)
-    (λ c. search rules)
-    (λ c. search rules)
-    returns
-    mul-position
-    (λ c κs. search rules)
-    returns-2
-    returns-3)
+pub returns-else-length-entry : goal.returns-else-length-entry
+returns-else-length-entry c =
+    let a = c.args in
+    c.pair_at.ensures ∙ sym (doubled a.n a.entry)
