@@ -5,13 +5,14 @@ use mathlib.Core.Path.{◌≡◌, sym, ap, ◌∙◌}
 use Prim.Native.Nat.{ℕ, zero, suc, ◌+◌, ◌/◌, ◌≤◌, ◌<◌}
 use native.Mathlib.Nat.{sub-zero, zero-add}
 use native.Mathlib.Omega.{arith}
-use borrow.Author.Rules.{rules}
 use borrow.Author.Tests.{le-leb, lt-leb, lt-ltb, le-ltb}
 use lib.ListN.{length, take, drop}
 use lib.Seq.{sets, sets-eq}
 use Rattle.reply.specs.Reply.{Reply, served, refused, after}
 use Rattle.reply.proofs.Order.{kept}
 use Rattle.poly.specs.Limits.{outside, list_length}
+use Rattle.poly.specs.declared.limits.Count.{Count}
+use Rattle.poly.specs.declared.limits.Count.TheVariants.{Is}
 use Rattle.poly.specs.Replies.{count_reply, length_reply}
 use Rattle.poly.proofs.Ranges.{within, length_served, length_refused}
 use Rattle.euclid.specs.Chain.{Pair}
@@ -20,8 +21,7 @@ use Rattle.listing.specs.Replies.{codes, pairs_from, from_reply, from_content}
 use Rattle.listing.specs.Filling.{fitting, Written}
 use Rattle.listing.proofs.From.{length_codes}
 use Rattle.listing.proofs.Written.{fitting_le}
-use Rattle.listing.proofs.pairs_from.Statement.{statement}
-use Rattle.listing.proofs.pairs_from.Tie as tie
+use Rattle.listing.proofs.pairs_from.Goals as goal
 
 module _ (n position : ℕ) (out : List ℕ) where
   abbrev Refuses : ℕ → Type 0
@@ -84,62 +84,38 @@ module _ (n position : ℕ) (out : List ℕ) where
               w.content ∙ ap (λ ps. sets out 0 (codes ps)) same ∙ sets-eq (codes given) out 0 fits
               ∙ rw zero-add (sym (ap (λ (r : Reply). after r (codes given ++ drop (length (codes given)) out) out) reply))
 
-list-length-requires : tie.Need-list-length-requires
-list-length-requires c κs = search rules
-
-enum-known-refusal : tie.Need-enum-known-refusal
-enum-known-refusal c = search rules
-
-enum-known-length : tie.Need-enum-known-length
-enum-known-length c = search rules
-
 -- the length that the degree answered
-answered : (c : tie.After-known-told2)
-    → served (c.before.length.given.0.0 ∷ []) ≡ length_reply c.before.before.before.before.before.args.n
-answered c = sym (ap count_reply c.before.length.given.1) ∙ c.before.before.before.list_length.ensures
+answered : (n : ℕ) {count : Count} {length' : ℕ} → count ≡ Is length' → count_reply count ≡ length_reply n
+    → served (length' ∷ []) ≡ length_reply n
+answered n is e = sym (ap count_reply is) ∙ e
 
-returns : tie.Need-returns
-returns c =
-    let a = c.before.before.before.before.before.before.args in
-    bad_position a.n a.position a.out.now _ (answered c.before) c.if1.true
+pub returns-then-length-position : goal.returns-then-length-position
+returns-then-length-position c =
+    let a = c.args in
+    let r = bad_position a.n a.position a.out.now _ (answered a.n c.in-Is.is c.list_length.ensures) c.if-length-position.true in
+    record { reply = r.0; content = r.1 }
 
-returns-2 : tie.Need-returns-2
-returns-2 c =
-    let a = c.before.before.before.before.before.before.before.args in
-    no_room a.n a.position a.out.now _ (answered c.before.before) c.before.if1.false c.if2.true
+pub returns-then-out-lt2 : goal.returns-then-out-lt2
+returns-then-out-lt2 c =
+    let a = c.args in
+    let r = no_room a.n a.position a.out.now _ (answered a.n c.in-Is.is c.list_length.ensures) c.if-length-position.false c.if-out-lt2.true in
+    record { reply = r.0; content = r.1 }
 
-fill-list-requires : tie.Need-fill-list-requires
-fill-list-requires c κs =
-    let a = c.before.before.before.before.before.before.before.before.args in
-    asked a.n a.position a.out.now _ (answered c.before.before.before) c.before.before.if1.false
+pub fill_list-requires : goal.fill_list-requires
+fill_list-requires c =
+    let a = c.args in
+    asked a.n a.position a.out.now _ (answered a.n c.in-Is.is c.list_length.ensures) c.if-length-position.false
 
-returns-3 : tie.Need-returns-3
-returns-3 c =
-    let a = c.before.before.before.before.before.args in
-    bad_degree a.n a.position a.out.now
-    (sym (ap count_reply c.before.refusal.given.1) ∙ c.before.before.before.list_length.ensures)
+pub returns-in-Refused : goal.returns-in-Refused
+returns-in-Refused c =
+    let a = c.args in
+    let r = bad_degree a.n a.position a.out.now
+    (sym (ap count_reply c.in-Refused.is) ∙ c.list_length.ensures) in
+    record { reply = r.0; content = r.1 }
 
-same_length : tie.Need-same-length
-same_length c = search rules
-
-returns-4 : tie.Need-returns-4
-returns-4 c =
-    let room = c.before.before.before.before in
-    let below = room.before in
-    let a = below.before.before.before.before.before.before.args in
-    filled a.n a.position a.out.now _ (answered below.before) below.if1.false room.if2.false
-    c.before.before.fill-list.ensures
-
-pub pairs-from-spec : {M : Type 1} → statement M
-pairs-from-spec =
-    tie.close
-    (tie.spec
-    list-length-requires
-    enum-known-refusal
-    enum-known-length
-    returns
-    returns-2
-    fill-list-requires
-    returns-3
-    same_length
-    returns-4)
+pub returns-else-out-lt2 : goal.returns-else-out-lt2
+returns-else-out-lt2 c =
+    let a = c.args in
+    let r = filled a.n a.position a.out.now _ (answered a.n c.in-Is.is c.list_length.ensures) c.if-length-position.false c.if-out-lt2.false
+    c.fill_list.ensures in
+    record { reply = r.0; content = r.1 }

@@ -1,0 +1,38 @@
+use mathlib.Core.List.{List}
+use mathlib.Core.Path.{◌≡◌, sym, ◌∙◌}
+use Prim.Native.Nat.{ℕ, ◌-◌, ◌<◌}
+use native.Mathlib.Omega.{arith}
+use borrow.Author.Tests.{leb-true, leb-false}
+use Rattle.listing.specs.Filling.{Ready}
+use Rattle.listing.proofs.Written.{skipped}
+use Rattle.listing.proofs.Onward.{length_onward, product_fits, asks_0, asks_1, both_letters, last_letter}
+use Rattle.listing.proofs.+fill.Goals as goal
+
+less-left : {t m r s : ℕ} {heads : List ℕ} → m ≡ t → Ready heads m r s → m - 1 < t
+less-left e ready = omega (arith, ready.some)
+
+pub returns-then-all_skipped : goal.returns-then-all_skipped
+returns-then-all_skipped t c =
+    let a = c.args in
+    let all = leb-true _ _ (sym (c.all_skipped.ensures a.s) ∙ c.if-all_skipped.true) in
+    skipped (rw (length_onward a.heads.now a.m a.r a.s) all)
+
+pub turned-next-requires : goal.turned-next-requires
+turned-next-requires t c = product_fits c.requires
+
+pub returns-then-m-eq1 : goal.returns-then-m-eq1
+returns-then-m-eq1 t c =
+    last_letter c.requires c.turned-next.ensures c.if-m-eq1.true
+    (leb-false _ _ (sym (c.all_skipped.ensures _) ∙ c.if-all_skipped.false)) c.less.ensures c.put-one.ensures c.put.ensures
+
+pub fill-half-requires : goal.fill-half-requires
+fill-half-requires t c =
+    (less-left c.decreases c.requires, asks_0 c.requires c.turned-next.ensures c.if-m-eq1.false)
+
+pub fill-requires : goal.fill-requires
+fill-requires t c =
+    (less-left c.decreases c.requires, asks_1 c.requires c.turned-next.ensures c.if-m-eq1.false)
+
+pub returns : goal.returns
+returns t c =
+    both_letters c.requires c.turned-next.ensures (c.rest_of-rest.ensures _) c.fill-half.ensures c.fill.ensures

@@ -1,0 +1,107 @@
+use mathlib.Core.Path.{◌≡◌, refl, ◌∙◌}
+use mathlib.Core.List.{List}
+use Prim.Native.Nat.{ℕ, ◌+◌, ◌-◌, ◌*◌, ◌/◌, ◌^◌, ◌<◌}
+use native.Mathlib.Omega.{arith}
+use lib.ListN.{replicate}
+use Rattle.pairs.proofs.Gaps.{share_fits, share_computed, comma_left, plus_left, share_le}
+use Rattle.listing.proofs.Heads.{Between, begins, commas_lt, head_fits, comma_turn, plus_turn, finished}
+use Rattle.listing.proofs.heads_of.Goals as goal
+
+first : (c : goal.Start)
+    → Between c.args.n c.args.k c.args.group (replicate 32 0) (c.args.group / 2 ^ (c.args.n - c.args.k)) c.args.count
+    (c.args.n - 1) (c.args.k - 1) 1
+first c =
+    let a = c.args in
+    begins a.n a.k a.count a.group (replicate 32 0) c.requires.0 c.requires.1 c.requires.2 c.requires.3 c.requires.4 refl
+
+pub overflow_sub-index : goal.overflow_sub-index
+overflow_sub-index c = omega arith
+
+pub overflow_cast-index : goal.overflow_cast-index
+overflow_cast-index c = omega arith
+
+pub overflow_shr-index : goal.overflow_shr-index
+overflow_shr-index c = omega arith
+
+pub overflow_cast-index-2 : goal.overflow_cast-index-2
+overflow_cast-index-2 c = record { fits = omega (arith, (first c).choices.inside, c.ranges.count.fits) }
+
+pub overflow_sub-gaps : goal.overflow_sub-gaps
+overflow_sub-gaps c = omega arith
+
+pub overflow_sub-commas : goal.overflow_sub-commas
+overflow_sub-commas c = omega arith
+
+pub loop-gaps-init : goal.loop-gaps-init
+loop-gaps-init c = first c
+
+pub overflow_mul-left : goal.overflow_mul-left
+overflow_mul-left c = let b = c.loop-gaps.invariant in record { fits = share_fits b.choices (omega (arith, b.few, b.gap)) }
+
+-- the share, as it is computed
+shared : {n k group : ℕ} {heads : List ℕ} {index left gaps commas head x : ℕ} → Between n k group heads index left gaps commas head → 0 < gaps
+    → x ≡ left * commas * (2 ^ 32 / gaps + 1) / 2 ^ 32 → x ≡ left * commas / gaps
+shared b pos e = e ∙ share_computed _ _ b.choices pos (omega (arith, b.few, b.gap))
+
+pub overflow_sub-gaps-in-loop-gaps : goal.overflow_sub-gaps-in-loop-gaps
+overflow_sub-gaps-in-loop-gaps c = c.loop-gaps-test.true
+
+pub overflow_cast-heads : goal.overflow_cast-heads
+overflow_cast-heads c = omega (arith, commas_lt c.loop-gaps.invariant)
+
+pub offset_bounds-heads-commas : goal.offset_bounds-heads-commas
+offset_bounds-heads-commas c = omega (arith, commas_lt c.loop-gaps.invariant)
+
+pub bounds-heads-commas : goal.bounds-heads-commas
+bounds-heads-commas c = omega (arith, commas_lt c.loop-gaps.invariant)
+
+pub overflow_sub-commas-then-index-with_comma : goal.overflow_sub-commas-then-index-with_comma
+overflow_sub-commas-then-index-with_comma c = comma_left _ _ c.loop-gaps.invariant.choices c.loop-gaps-test.true
+    (rw (shared c.loop-gaps.invariant c.loop-gaps-test.true c.share-with_comma.ensures) at c.if-index-with_comma.true)
+
+pub loop-gaps-smaller-then-index-with_comma : goal.loop-gaps-smaller-then-index-with_comma
+loop-gaps-smaller-then-index-with_comma c = omega (arith, c.loop-gaps-test.true)
+
+pub loop-gaps-preserved-then-index-with_comma : goal.loop-gaps-preserved-then-index-with_comma
+loop-gaps-preserved-then-index-with_comma c =
+    rw (shared c.loop-gaps.invariant c.loop-gaps-test.true c.share-with_comma.ensures)
+    (comma_turn _ _ c.loop-gaps.invariant c.loop-gaps-test.true
+    (rw (shared c.loop-gaps.invariant c.loop-gaps-test.true c.share-with_comma.ensures) at c.if-index-with_comma.true))
+
+pub overflow_sub-head : goal.overflow_sub-head
+overflow_sub-head c = plus_left _ _ c.loop-gaps.invariant.choices c.loop-gaps-test.true
+    (rw (shared c.loop-gaps.invariant c.loop-gaps-test.true c.share-with_comma.ensures) at c.if-index-with_comma.false)
+
+pub overflow_cast-head : goal.overflow_cast-head
+overflow_cast-head c = let b = c.loop-gaps.invariant in record { fits = omega (arith, b.gap, b.few) }
+
+pub overflow_shr-head : goal.overflow_shr-head
+overflow_shr-head c = let b = c.loop-gaps.invariant in omega (arith, b.gap, b.few)
+
+pub overflow_cast-head-else-index-with_comma : goal.overflow_cast-head-else-index-with_comma
+overflow_cast-head-else-index-with_comma c = omega arith
+
+pub overflow_add-head : goal.overflow_add-head
+overflow_add-head c = record {
+  fits = head_fits _ _ c.loop-gaps.invariant c.loop-gaps-test.true _ (omega arith);
+}
+
+pub overflow_sub-left : goal.overflow_sub-left
+overflow_sub-left c =
+    rw (shared c.loop-gaps.invariant c.loop-gaps-test.true c.share-with_comma.ensures)
+    (share_le _ _ c.loop-gaps.invariant.choices c.loop-gaps-test.true)
+
+pub loop-gaps-smaller : goal.loop-gaps-smaller
+loop-gaps-smaller c = omega (arith, c.loop-gaps-test.true)
+
+pub loop-gaps-preserved : goal.loop-gaps-preserved
+loop-gaps-preserved c =
+    rw (shared c.loop-gaps.invariant c.loop-gaps-test.true c.share-with_comma.ensures)
+    (plus_turn _ _ c.loop-gaps.invariant c.loop-gaps-test.true
+    (rw (shared c.loop-gaps.invariant c.loop-gaps-test.true c.share-with_comma.ensures) at c.if-index-with_comma.false))
+
+pub bounds-heads-0 : goal.bounds-heads-0
+bounds-heads-0 c = omega arith
+
+pub returns : goal.returns
+returns c = finished _ _ c.loop-gaps.invariant c.loop-gaps-test.false

@@ -1,0 +1,7 @@
+-- `rest_of` meets its contract: nothing skipped leaves nothing to skip.
+use mathlib.Core.Path.{ap, ◌∙◌}
+use Prim.Native.Nat.{◌-◌}
+use Rattle.listing.proofs.rest_of.Goals as goal
+
+pub returns : goal.returns
+returns c = λ s. c.less.ensures ∙ ap (λ v. c.args.skip - v) (c.words_from.ensures s)
