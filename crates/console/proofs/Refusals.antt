@@ -13,31 +13,29 @@ use Rattle.reply.specs.declared.Refusal.TheVariants.{OrderRange, SymbolRange, No
 use Rattle.reply.specs.declared.Refusal.TheVariants.{SavedKind, CountRange}
 
 pub not_0 : (why : Refusal) → eqb (number_of why) 0 ≡ false
-not_0 why = elim why [
-  | DegreeRange ↦ refl
-  | PositionRange ↦ refl
-  | WalkRecord ↦ refl
-  | SliceLength ↦ refl
-  | SiteRange ↦ refl
-  | CodeDegree ↦ refl
-  | ConstantTerm ↦ refl
-  | CommonFactor ↦ refl
-  | FileEnds ↦ refl
-  | NumberForm ↦ refl
-  | Version ↦ refl
-  | SheetDegree ↦ refl
-  | LevelRange ↦ refl
-  | LevelRepeated ↦ refl
-  | NameLength ↦ refl
-  | NameByte ↦ refl
-  | TrailingBytes ↦ refl
-  | MarkRange ↦ refl
-  | MarkEmpty ↦ refl
-  | BonderRange ↦ refl
-  | BonderFull ↦ refl
-  | OrderRange ↦ refl
-  | SymbolRange ↦ refl
-  | NotGraecoLatin ↦ refl
-  | SavedKind ↦ refl
-  | CountRange ↦ refl
-]
+not_0 DegreeRange = refl
+not_0 PositionRange = refl
+not_0 WalkRecord = refl
+not_0 SliceLength = refl
+not_0 SiteRange = refl
+not_0 CodeDegree = refl
+not_0 ConstantTerm = refl
+not_0 CommonFactor = refl
+not_0 FileEnds = refl
+not_0 NumberForm = refl
+not_0 Version = refl
+not_0 SheetDegree = refl
+not_0 LevelRange = refl
+not_0 LevelRepeated = refl
+not_0 NameLength = refl
+not_0 NameByte = refl
+not_0 TrailingBytes = refl
+not_0 MarkRange = refl
+not_0 MarkEmpty = refl
+not_0 BonderRange = refl
+not_0 BonderFull = refl
+not_0 OrderRange = refl
+not_0 SymbolRange = refl
+not_0 NotGraecoLatin = refl
+not_0 SavedKind = refl
+not_0 CountRange = refl

@@ -1,10 +1,11 @@
 -- What an answer of the library tells, once its reply is known to be the one that the contract cites; and what is in a lent record after a
 -- call that stores one only where it returns 0.
 use mathlib.Core.Path.{◌≡◌, refl, sym, ap, subst, ◌∙◌}
-use mathlib.Core.Bool.{Bool, true, false, not, cond}
+use mathlib.Core.Bool.{Bool, cond}
 use mathlib.Core.List.{List}
 use Prim.Native.Nat.{ℕ}
-use lib.Dec.{T, T_not, eqb}
+use borrow.Author.Tests.{ne_eqb}
+use lib.Dec.{eqb}
 use Rattle.reply.specs.Reply.{Reply, served, refused, spent, after}
 use Rattle.walk.specs.declared.Walk.{Walk}
 use Rattle.walk.specs.declared.Change.{Change}
@@ -45,8 +46,8 @@ wrote e {size = size} s out = record { returned = s ∙ returned e; out_after = 
 abbrev Unserved : Reply → Type 0
 Unserved reply = status reply ≡ 0 → ⊥
 
-unserved : (s : ℕ) (reply : Reply) → s ≡ status reply → T (not (eqb s 0)) → Unserved reply
-unserved s reply e t z = T_not (eqb s 0) t (subst (λ (k : ℕ). T (eqb k 0)) (sym (e ∙ z)) tt)
+unserved : (s : ℕ) (reply : Reply) → s ≡ status reply → (s ≡ 0 → ⊥) → Unserved reply
+unserved s reply e t z = t (e ∙ z)
 
 unserved_after : (reply : Reply) → Unserved reply → (new old : Walk) → old ≡ after reply new old
 unserved_after (served values) un new old = absurd (un refl)
@@ -54,18 +55,18 @@ unserved_after (refused number) un new old = refl
 unserved_after spent un new old = refl
 
 -- a call that is not served stores nothing
-unchanged : (reply : Reply) (new walk : Walk) {walk' : Walk} {s : ℕ} → Changes reply (after reply new walk) walk' s → T (not (eqb s 0))
+unchanged : (reply : Reply) (new walk : Walk) {walk' : Walk} {s : ℕ} → Changes reply (after reply new walk) walk' s → (s ≡ 0 → ⊥)
     → Changes reply (after reply new walk) walk s
 unchanged reply new walk {s = s} e t = record {
   returned = e.returned;
   stored = unserved_after reply (unserved s reply e.returned t) new walk;
 }
 
-pub set_unserved : (walk walk' : Walk) (mark s : ℕ) → SetsMark walk mark walk' s → T (not (eqb s 0)) → SetsMark walk mark walk s
+pub set_unserved : (walk walk' : Walk) (mark s : ℕ) → SetsMark walk mark walk' s → (s ≡ 0 → ⊥) → SetsMark walk mark walk s
 unfolding after_set_mark
 set_unserved walk walk' mark s e t = unchanged (set_mark_reply walk mark) _ walk e t
 
-pub back_unserved : (walk walk' : Walk) (mark s : ℕ) → GoesBack walk mark walk' s → T (not (eqb s 0)) → GoesBack walk mark walk s
+pub back_unserved : (walk walk' : Walk) (mark s : ℕ) → GoesBack walk mark walk' s → (s ≡ 0 → ⊥) → GoesBack walk mark walk s
 unfolding after_go_back
 back_unserved walk walk' mark s e t = unchanged (go_back_reply walk mark) _ walk e t
 
@@ -91,19 +92,11 @@ after_twice spent new other walk = refl
 
 -- so what the call says holds of the new record where the status is 0, and else of the one that stands there
 module _ (says : Walk → Walk → ℕ → Type 0) (new : Walk) (s : ℕ) (stored : Stores says new s) (walk : Walk) where
-  pub new_there : T (eqb s 0) → says walk new s
-  new_there t = go (eqb s 0) t (stored walk)
-    where
-      go : (b : Bool) → T b → says walk (cond b new walk) s → says walk new s
-      go true t e = e
-      go false t e = absurd t
+  pub new_there : s ≡ 0 → says walk new s
+  new_there z = subst (λ (b : Bool). says walk (cond b new walk) s) (ap (λ (v : ℕ). eqb v 0) z) (stored walk)
 
-  pub left_there : T (not (eqb s 0)) → says walk walk s
-  left_there t = go (eqb s 0) t (stored walk)
-    where
-      go : (b : Bool) → T (not b) → says walk (cond b new walk) s → says walk walk s
-      go true t e = absurd t
-      go false t e = e
+  pub left_there : (s ≡ 0 → ⊥) → says walk walk s
+  left_there ne = subst (λ (b : Bool). says walk (cond b new walk) s) (ne_eqb s 0 ne) (stored walk)
 
 -- a draw changes neither the degree nor the marks
 abbrev pub moved : Walk → Walk → Walk
@@ -132,7 +125,7 @@ draw_moved {walk} {bonder = bonder} e = record {
   moved = ap (moved walk) e.moved ∙ moved_after walk bonder;
 }
 
-pub draw_unserved : {walk walk' : Walk} {bonder f g f' g' s : ℕ} → Draws walk bonder walk' f g f' g' s → T (not (eqb s 0))
+pub draw_unserved : {walk walk' : Walk} {bonder f g f' g' s : ℕ} → Draws walk bonder walk' f g f' g' s → (s ≡ 0 → ⊥)
     → Draws walk bonder walk f g f' g' s
 unfolding after_draw
 draw_unserved {walk} {bonder = bonder} {s = s} e t = record {

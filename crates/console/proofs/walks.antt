@@ -1,4 +1,0 @@
--- What the proofs of this module's functions share.
-mod Lent
-mod Marking
-mod Storing

@@ -1,0 +1,15 @@
+-- `written` meets its contract: it passes on what the library answers.
+use mathlib.Core.Path.{refl}
+use Rattle.saved.specs.Answers.{saved_reply}
+use Rattle.console.proofs.Told.{told, wrote}
+use Rattle.console.proofs.walks.written.Goals as goal
+
+pub returns-in-Refused : goal.returns-in-Refused
+returns-in-Refused c =
+    let done = c.save-answer.ensures in
+    wrote (told saved_reply c.in-Refused.is done.reply) c.number.ensures done.after
+
+pub returns-in-Length : goal.returns-in-Length
+returns-in-Length c =
+    let done = c.save-answer.ensures in
+    wrote (told saved_reply c.in-Length.is done.reply) refl done.after
