@@ -1,5 +1,6 @@
 pub mod Valid
 pub mod Words
+pub mod WordCounts
 pub mod Letters
 pub mod Reciprocals
 pub mod Reading

@@ -98,7 +98,8 @@ returns-then-length-position c =
 pub returns-then-out-lt2 : goal.returns-then-out-lt2
 returns-then-out-lt2 c =
     let a = c.args in
-    let r = no_room a.n a.position a.out.now _ (answered a.n c.in-Is.is c.list_length.ensures) c.if-length-position.false c.if-out-lt2.true in
+    let r = no_room a.n a.position a.out.now _ (answered a.n c.in-Is.is c.list_length.ensures) c.if-length-position.false
+    c.if-out-lt2.true in
     record { reply = r.0; content = r.1 }
 
 pub fill_list-requires : goal.fill_list-requires

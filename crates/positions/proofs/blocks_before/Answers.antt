@@ -90,7 +90,8 @@ loop-j-preserved c =
     let l = c.loop-j in (
       omega arith,
       omega arith,
-      rw (size_shifted n l.j l.compositions l.words (omega arith) (omega arith) l.invariant.3 l.invariant.4, l.invariant.2) (sym (blocks_next n l.j (omega arith))),
+      rw (size_shifted n l.j l.compositions l.words (omega arith) (omega arith) l.invariant.3 l.invariant.4, l.invariant.2)
+          (sym (blocks_next n l.j (omega arith))),
       c.share-compositions.ensures ∙ (next_share n l.j (omega arith) (omega arith) (omega arith) l.invariant.3).1,
       next_words l.j l.words (omega arith) l.invariant.4 ∙ ap (λ v. length (words v)) (sym (add-one l.j)),
     )

@@ -74,7 +74,15 @@ overflow_sub-left c = omega (arith, left_several c.loop-commas.invariant.1 c.loo
 pub overflow_cast-commas : goal.overflow_cast-commas
 overflow_cast-commas c =
     let a = c.args in
-    record { fits = omega (arith, backwards_count a.n a.chain.now a.k (among_valid a.n (backwards a.chain.now a.k) c.requires.listed), c.loop-commas.invariant.0, c.requires.small) }
+    record {
+      fits = omega (
+        arith,
+        backwards_count a.n a.chain.now a.k
+            (among_valid a.n (backwards a.chain.now a.k) c.requires.listed),
+        c.loop-commas.invariant.0,
+        c.requires.small,
+      );
+    }
 
 pub overflow_mul-count : goal.overflow_mul-count
 overflow_mul-count c = record { fits = share_fits c.loop-commas.invariant.1 c.requires.small }
@@ -108,12 +116,22 @@ one_at_most d h = elim (dec_lt 1 d) [
 pub overflow_add-rank : goal.overflow_add-rank
 overflow_add-rank c =
     let a = c.args in
-    let next = walked_next a.n (degrees a.chain.now a.k) a.chain.now c.requires.small c.loop-commas-test.true c.share-with_comma.ensures c.either-rank.ensures c.degree_of-next.ensures c.loop-commas.invariant.1 in
-    record { fits = omega (arith, c.either-rank.ensures, next.rank_is, rank_lt a.n a.chain.now a.k (among_valid a.n (backwards a.chain.now a.k) c.requires.listed) c.requires.small) }
+    let next = walked_next a.n (degrees a.chain.now a.k) a.chain.now c.requires.small c.loop-commas-test.true
+    c.share-with_comma.ensures c.either-rank.ensures c.degree_of-next.ensures c.loop-commas.invariant.1 in
+    record {
+      fits = omega (
+        arith,
+        c.either-rank.ensures,
+        next.rank_is,
+        rank_lt a.n a.chain.now a.k
+            (among_valid a.n (backwards a.chain.now a.k) c.requires.listed) c.requires.small,
+      );
+    }
 
 pub overflow_sub-count : goal.overflow_sub-count
 overflow_sub-count c =
-    rw (c.share-with_comma.ensures ∙ share_computed c.loop-commas.invariant.1 c.requires.small c.loop-commas-test.true) (share_le c.loop-commas.invariant.1 c.loop-commas-test.true)
+    rw (c.share-with_comma.ensures ∙ share_computed c.loop-commas.invariant.1 c.requires.small c.loop-commas-test.true)
+    (share_le c.loop-commas.invariant.1 c.loop-commas-test.true)
 
 pub overflow_sub-d : goal.overflow_sub-d
 overflow_sub-d c = c.loop-commas.invariant.1.here
@@ -128,10 +146,13 @@ loop-commas-smaller c = omega (arith, left_several c.loop-commas.invariant.1 c.l
 pub loop-commas-preserved : goal.loop-commas-preserved
 loop-commas-preserved c = let a = c.args in (
   omega (arith, c.loop-commas.invariant.0),
-  rw (c.either-count.ensures, c.either-d.ensures, c.either.ensures) (walked_next a.n (degrees a.chain.now a.k) a.chain.now c.requires.small c.loop-commas-test.true c.share-with_comma.ensures c.either-rank.ensures c.degree_of-next.ensures c.loop-commas.invariant.1),
+  rw (c.either-count.ensures, c.either-d.ensures, c.either.ensures)
+      (walked_next a.n (degrees a.chain.now a.k) a.chain.now c.requires.small c.loop-commas-test.true c.share-with_comma.ensures
+      c.either-rank.ensures c.degree_of-next.ensures c.loop-commas.invariant.1),
 )
 
 pub returns : goal.returns
 returns c =
     let a = c.args in
-    stands a.n a.chain.now a.k (among_valid a.n (backwards a.chain.now a.k) c.requires.listed) (walked_all c.loop-commas.invariant.1 (omega arith))
+    stands a.n a.chain.now a.k (among_valid a.n (backwards a.chain.now a.k) c.requires.listed)
+    (walked_all c.loop-commas.invariant.1 (omega arith))

@@ -17,10 +17,13 @@ known : {n f g count divisor : ℕ} {chained : Outcome} {array : List ℕ} → c
 known is reply content = record { reply = sym (ap chained_reply is) ∙ reply; content = content }
 
 pub returns-then-divisor-ne1 : goal.returns-then-divisor-ne1
-returns-then-divisor-ne1 c = factor (known c.in-Quotients.is c.quotients-chained.ensures.reply c.quotients-chained.ensures.content) (λ e. omega (arith, c.if-divisor-ne1.true))
+returns-then-divisor-ne1 c =
+    factor (known c.in-Quotients.is c.quotients-chained.ensures.reply c.quotients-chained.ensures.content)
+    (λ e. omega (arith, c.if-divisor-ne1.true))
 
 pub overflow_sub-count : goal.overflow_sub-count
-overflow_sub-count c = omega (arith, count_pos (known c.in-Quotients.is c.quotients-chained.ensures.reply c.quotients-chained.ensures.content))
+overflow_sub-count c =
+    omega (arith, count_pos (known c.in-Quotients.is c.quotients-chained.ensures.reply c.quotients-chained.ensures.content))
 
 pub sequence_position-requires : goal.sequence_position-requires
 sequence_position-requires c =
@@ -34,4 +37,6 @@ returns-in-Refused c =
     (sym (ap chained_reply c.in-Refused.is) ∙ c.quotients-chained.ensures.reply)
 
 pub returns-else-divisor-ne1 : goal.returns-else-divisor-ne1
-returns-else-divisor-ne1 c = position (known c.in-Quotients.is c.quotients-chained.ensures.reply c.quotients-chained.ensures.content) c.if-divisor-ne1.false c.sequence_position.ensures
+returns-else-divisor-ne1 c =
+    position (known c.in-Quotients.is c.quotients-chained.ensures.reply c.quotients-chained.ensures.content) c.if-divisor-ne1.false
+    c.sequence_position.ensures

@@ -29,10 +29,11 @@ bits_and_word-parts-requires c =
 pub rank10-word-requires : goal.rank10-word-requires
 rank10-word-requires c =
     let a = c.args in
-    let word = word_leads (among_valid c.args.n (backwards c.args.chain.now c.args.k) c.requires.listed) (length_backwards a.chain.now a.k) c.bits_and_word-parts.ensures in
+    let v = among_valid a.n (backwards a.chain.now a.k) c.requires.listed in
+    let word = word_leads v (length_backwards a.chain.now a.k) c.bits_and_word-parts.ensures in
     record {
-      short = omega (arith, counted c.args.n c.args.chain.now c.args.k c.requires.listed);
-      all = words-counted c.args.n c.args.chain.now c.args.k c.requires.listed c.requires.small c.word_count-words.ensures;
+      short = omega (arith, counted a.n a.chain.now a.k c.requires.listed);
+      all = words-counted a.n a.chain.now a.k c.requires.listed c.requires.small c.word_count-words.ensures;
       word = word;
     }
 
@@ -45,18 +46,42 @@ overflow_sub-place c = omega (arith, counted c.args.n c.args.chain.now c.args.k 
 pub overflow_add-place : goal.overflow_add-place
 overflow_add-place c =
     let a = c.args in
-    let small = place_lt (among_valid c.args.n (backwards c.args.chain.now c.args.k) c.requires.listed) (length_backwards a.chain.now a.k) c.bits_and_word-parts.ensures
+    let v = among_valid a.n (backwards a.chain.now a.k) c.requires.listed in
+    let small = place_lt v (length_backwards a.chain.now a.k) c.bits_and_word-parts.ensures
     c.requires.small c.composition_rank-composition.ensures in
     omega arith
 
 pub overflow_mul-result : goal.overflow_mul-result
-overflow_mul-result c = omega (arith, position_lt (among_valid c.args.n (backwards c.args.chain.now c.args.k) c.requires.listed) (length_backwards c.args.chain.now c.args.k) c.bits_and_word-parts.ensures c.requires.small c.composition_rank-composition.ensures c.blocks_before-before.ensures.0 c.rank10-word.ensures (words-counted c.args.n c.args.chain.now c.args.k c.requires.listed c.requires.small c.word_count-words.ensures))
+overflow_mul-result c =
+    let a = c.args in
+    let v = among_valid a.n (backwards a.chain.now a.k) c.requires.listed in
+    let words = words-counted a.n a.chain.now a.k c.requires.listed c.requires.small c.word_count-words.ensures in
+    let fits = position_lt v (length_backwards a.chain.now a.k) c.bits_and_word-parts.ensures c.requires.small
+    c.composition_rank-composition.ensures c.blocks_before-before.ensures.0 c.rank10-word.ensures words in
+    omega arith
 
 pub overflow_add-result : goal.overflow_add-result
-overflow_add-result c = omega (arith, position_lt (among_valid c.args.n (backwards c.args.chain.now c.args.k) c.requires.listed) (length_backwards c.args.chain.now c.args.k) c.bits_and_word-parts.ensures c.requires.small c.composition_rank-composition.ensures c.blocks_before-before.ensures.0 c.rank10-word.ensures (words-counted c.args.n c.args.chain.now c.args.k c.requires.listed c.requires.small c.word_count-words.ensures))
+overflow_add-result c =
+    let a = c.args in
+    let v = among_valid a.n (backwards a.chain.now a.k) c.requires.listed in
+    let words = words-counted a.n a.chain.now a.k c.requires.listed c.requires.small c.word_count-words.ensures in
+    let fits = position_lt v (length_backwards a.chain.now a.k) c.bits_and_word-parts.ensures c.requires.small
+    c.composition_rank-composition.ensures c.blocks_before-before.ensures.0 c.rank10-word.ensures words in
+    omega arith
 
 pub overflow_add-result-2 : goal.overflow_add-result-2
-overflow_add-result-2 c = omega (arith, position_lt (among_valid c.args.n (backwards c.args.chain.now c.args.k) c.requires.listed) (length_backwards c.args.chain.now c.args.k) c.bits_and_word-parts.ensures c.requires.small c.composition_rank-composition.ensures c.blocks_before-before.ensures.0 c.rank10-word.ensures (words-counted c.args.n c.args.chain.now c.args.k c.requires.listed c.requires.small c.word_count-words.ensures))
+overflow_add-result-2 c =
+    let a = c.args in
+    let v = among_valid a.n (backwards a.chain.now a.k) c.requires.listed in
+    let words = words-counted a.n a.chain.now a.k c.requires.listed c.requires.small c.word_count-words.ensures in
+    let fits = position_lt v (length_backwards a.chain.now a.k) c.bits_and_word-parts.ensures c.requires.small
+    c.composition_rank-composition.ensures c.blocks_before-before.ensures.0 c.rank10-word.ensures words in
+    omega arith
 
 pub returns : goal.returns
-returns c = position_stands (among_valid c.args.n (backwards c.args.chain.now c.args.k) c.requires.listed) (length_backwards c.args.chain.now c.args.k) c.bits_and_word-parts.ensures c.requires.small c.composition_rank-composition.ensures c.blocks_before-before.ensures.0 c.rank10-word.ensures (words-counted c.args.n c.args.chain.now c.args.k c.requires.listed c.requires.small c.word_count-words.ensures)
+returns c =
+    let a = c.args in
+    let v = among_valid a.n (backwards a.chain.now a.k) c.requires.listed in
+    let words = words-counted a.n a.chain.now a.k c.requires.listed c.requires.small c.word_count-words.ensures in
+    position_stands v (length_backwards a.chain.now a.k) c.bits_and_word-parts.ensures c.requires.small
+    c.composition_rank-composition.ensures c.blocks_before-before.ensures.0 c.rank10-word.ensures words

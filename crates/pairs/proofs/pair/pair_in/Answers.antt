@@ -32,11 +32,15 @@ begins : (c : goal.After-from10-word)
 begins c =
     let a = c.args in
     let r = c.requires in
-    first_turn a.n a.k a.place r.le_k r.k_le_n r.place_in_bounds a.count c.word_count-words.result c.from10-word.result r.n_bound r.count_value
+    first_turn a.n a.k a.place r.le_k r.k_le_n r.place_in_bounds a.count c.word_count-words.result c.from10-word.result r.n_bound
+    r.count_value
     (counted c.word_count-words.ensures (omega arith)) c.from10-word.ensures
 
 pub nonzero_rem-place : goal.nonzero_rem-place
-nonzero_rem-place c = let r = c.requires in some_word c.args.n c.args.k c.args.place r.le_k r.k_le_n r.place_in_bounds c.word_count-words.result (counted c.word_count-words.ensures (omega arith))
+nonzero_rem-place c =
+    let r = c.requires in
+    some_word c.args.n c.args.k c.args.place r.le_k r.k_le_n r.place_in_bounds c.word_count-words.result
+    (counted c.word_count-words.ensures (omega arith))
 
 pub from10-word-requires : goal.from10-word-requires
 from10-word-requires c =
@@ -50,7 +54,10 @@ from10-word-requires c =
     }
 
 pub nonzero_div-bits : goal.nonzero_div-bits
-nonzero_div-bits c = let r = c.requires in some_word c.args.n c.args.k c.args.place r.le_k r.k_le_n r.place_in_bounds c.word_count-words.result (counted c.word_count-words.ensures (omega arith))
+nonzero_div-bits c =
+    let r = c.requires in
+    some_word c.args.n c.args.k c.args.place r.le_k r.k_le_n r.place_in_bounds c.word_count-words.result
+    (counted c.word_count-words.ensures (omega arith))
 
 pub overflow_sub-index : goal.overflow_sub-index
 overflow_sub-index c = omega arith
@@ -91,7 +98,8 @@ overflow_shr-word c = omega (arith, commas_lt c.loop-gaps.invariant)
 pub overflow_sub-commas-then-index-with_comma : goal.overflow_sub-commas-then-index-with_comma
 overflow_sub-commas-then-index-with_comma c =
     let l = c.loop-gaps in
-    comma_left _ _ l.invariant.share c.loop-gaps-test.true (rw (shared c.loop-gaps.invariant c.loop-gaps-test.true c.share-with_comma.ensures) at c.if-index-with_comma.true)
+    comma_left _ _ l.invariant.share c.loop-gaps-test.true
+    (rw (shared c.loop-gaps.invariant c.loop-gaps-test.true c.share-with_comma.ensures) at c.if-index-with_comma.true)
 
 pub loop-gaps-smaller-then-index-with_comma : goal.loop-gaps-smaller-then-index-with_comma
 loop-gaps-smaller-then-index-with_comma c = omega (arith, c.loop-gaps-test.true)
@@ -99,10 +107,13 @@ loop-gaps-smaller-then-index-with_comma c = omega (arith, c.loop-gaps-test.true)
 pub loop-gaps-preserved-then-index-with_comma : goal.loop-gaps-preserved-then-index-with_comma
 loop-gaps-preserved-then-index-with_comma c =
     rw ((shared c.loop-gaps.invariant c.loop-gaps-test.true c.share-with_comma.ensures), c.scaled.ensures)
-    (comma_turn _ _ c.loop-gaps.invariant c.loop-gaps-test.true (rw (shared c.loop-gaps.invariant c.loop-gaps-test.true c.share-with_comma.ensures) at c.if-index-with_comma.true))
+    (comma_turn _ _ c.loop-gaps.invariant c.loop-gaps-test.true
+    (rw (shared c.loop-gaps.invariant c.loop-gaps-test.true c.share-with_comma.ensures) at c.if-index-with_comma.true))
 
 pub overflow_sub-gaps-else-index-with_comma : goal.overflow_sub-gaps-else-index-with_comma
-overflow_sub-gaps-else-index-with_comma c = plus_left _ _ c.loop-gaps.invariant.share c.loop-gaps-test.true (rw (shared c.loop-gaps.invariant c.loop-gaps-test.true c.share-with_comma.ensures) at c.if-index-with_comma.false)
+overflow_sub-gaps-else-index-with_comma c =
+    plus_left _ _ c.loop-gaps.invariant.share c.loop-gaps-test.true
+    (rw (shared c.loop-gaps.invariant c.loop-gaps-test.true c.share-with_comma.ensures) at c.if-index-with_comma.false)
 
 pub overflow_cast-gaps : goal.overflow_cast-gaps
 overflow_cast-gaps c = let b = c.loop-gaps.invariant in record { fits = omega (arith, b.gap, b.few) }
@@ -121,7 +132,8 @@ loop-gaps-smaller c = omega (arith, c.loop-gaps-test.true)
 pub loop-gaps-preserved : goal.loop-gaps-preserved
 loop-gaps-preserved c =
     rw ((shared c.loop-gaps.invariant c.loop-gaps-test.true c.share-with_comma.ensures), c.scaled-else-index-with_comma.ensures, mod-mod)
-    (plus_turn _ _ c.loop-gaps.invariant c.loop-gaps-test.true (rw (shared c.loop-gaps.invariant c.loop-gaps-test.true c.share-with_comma.ensures) at c.if-index-with_comma.false))
+    (plus_turn _ _ c.loop-gaps.invariant c.loop-gaps-test.true
+    (rw (shared c.loop-gaps.invariant c.loop-gaps-test.true c.share-with_comma.ensures) at c.if-index-with_comma.false))
 
 pub returns : goal.returns
 returns c =

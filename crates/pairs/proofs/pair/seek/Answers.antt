@@ -126,13 +126,15 @@ overflow_add-k c = let b = c.loop-size.invariant.0 in record { fits = omega (ari
 
 pub block_size-size-requires-in-loop-size : goal.block_size-size-requires-in-loop-size
 block_size-size-requires-in-loop-size c = let b = c.loop-size.invariant in
-    let p = next b.0 _ b.1 c.share-count.ensures c.loop-size-test.true in record { le_k = p.low; k_le_n = p.high; n_bound = p.few; count_value = p.parts; words_value = p.letters }
+    let p = next b.0 _ b.1 c.share-count.ensures c.loop-size-test.true in
+    record { le_k = p.low; k_le_n = p.high; n_bound = p.few; count_value = p.parts; words_value = p.letters }
 
 pub loop-size-smaller : goal.loop-size-smaller
 loop-size-smaller c = let b = c.loop-size.invariant in omega (arith, (next b.0 _ b.1 c.share-count.ensures c.loop-size-test.true).high)
 
 pub loop-size-preserved : goal.loop-size-preserved
-loop-size-preserved c = let b = c.loop-size.invariant in (next b.0 _ b.1 c.share-count.ensures c.loop-size-test.true, c.block_size-size-in-loop-size.ensures)
+loop-size-preserved c =
+    let b = c.loop-size.invariant in (next b.0 _ b.1 c.share-count.ensures c.loop-size-test.true, c.block_size-size-in-loop-size.ensures)
 
 pub pair_in-requires : goal.pair_in-requires
 pair_in-requires c =

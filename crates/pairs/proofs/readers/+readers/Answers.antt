@@ -137,76 +137,95 @@ module _ {t m i count : ℕ} (pos : 1 ≤ m) (g : Given s10 t m i count) where
 
 pub from01-overflow_sub-rest : goal.from01-overflow_sub-rest
 from01-overflow_sub-rest t c =
-    let g : Given s01 t c.args.m c.args.i c.args.count = given s01 c.decreases c.requires.m_bound c.requires.count_value c.requires.i_lt_count in one g
+    let g : Given s01 t c.args.m c.args.i c.args.count = given s01 c.decreases c.requires.m_bound c.requires.count_value c.requires.i_lt_count in
+    one g
 
 pub from01-from10-requires : goal.from01-from10-requires
 from01-from10-requires t c =
-    let g : Given s01 t c.args.m c.args.i c.args.count = given s01 c.decreases c.requires.m_bound c.requires.count_value c.requires.i_lt_count in asks (here01 g) (letter_of _ c.args.i)
+    let g : Given s01 t c.args.m c.args.i c.args.count = given s01 c.decreases c.requires.m_bound c.requires.count_value c.requires.i_lt_count in
+    asks (here01 g) (letter_of _ c.args.i)
 
 pub from01-overflow_add-result : goal.from01-overflow_add-result
 from01-overflow_add-result t c =
-    let g : Given s01 t c.args.m c.args.i c.args.count = given s01 c.decreases c.requires.m_bound c.requires.count_value c.requires.i_lt_count in record { fits = letter-fits (here01 g) (letter_of _ c.args.i) c.from10.ensures }
+    let g : Given s01 t c.args.m c.args.i c.args.count = given s01 c.decreases c.requires.m_bound c.requires.count_value c.requires.i_lt_count in
+    record { fits = letter-fits (here01 g) (letter_of _ c.args.i) c.from10.ensures }
 
 pub from01-returns : goal.from01-returns
 from01-returns t c =
-    let g : Given s01 t c.args.m c.args.i c.args.count = given s01 c.decreases c.requires.m_bound c.requires.count_value c.requires.i_lt_count in gives (here01 g) (letter_of _ c.args.i) c.from10.ensures
+    let g : Given s01 t c.args.m c.args.i c.args.count = given s01 c.decreases c.requires.m_bound c.requires.count_value c.requires.i_lt_count in
+    gives (here01 g) (letter_of _ c.args.i) c.from10.ensures
 
 pub from10-returns-then-m-eq0 : goal.from10-returns-then-m-eq0
 from10-returns-then-m-eq0 t c =
-    let g : Given s10 t c.args.m c.args.i c.args.count = given s10 c.decreases c.requires.m_bound c.requires.count_value c.requires.i_lt_count in sym (number_at_none _ _ c.if-m-eq0.true (fit s10 g))
+    let g : Given s10 t c.args.m c.args.i c.args.count = given s10 c.decreases c.requires.m_bound c.requires.count_value c.requires.i_lt_count in
+    sym (number_at_none _ _ c.if-m-eq0.true (fit s10 g))
 
 pub from10-overflow_sub-ones : goal.from10-overflow_sub-ones
 from10-overflow_sub-ones t c =
-    let g : Given s10 t c.args.m c.args.i c.args.count = given s10 c.decreases c.requires.m_bound c.requires.count_value c.requires.i_lt_count in (fits10 _ _ c.requires.m_bound (two10 (pos_of_ne-zero c.if-m-eq0.false) g) c.requires.count_value).0
+    let g : Given s10 t c.args.m c.args.i c.args.count = given s10 c.decreases c.requires.m_bound c.requires.count_value c.requires.i_lt_count in
+    (fits10 _ _ c.requires.m_bound (two10 (pos_of_ne-zero c.if-m-eq0.false) g) c.requires.count_value).0
 
 pub from10-overflow_sub-zeros : goal.from10-overflow_sub-zeros
 from10-overflow_sub-zeros t c =
-    let g : Given s10 t c.args.m c.args.i c.args.count = given s10 c.decreases c.requires.m_bound c.requires.count_value c.requires.i_lt_count in (fits10 _ _ c.requires.m_bound (two10 (pos_of_ne-zero c.if-m-eq0.false) g) c.requires.count_value).1
+    let g : Given s10 t c.args.m c.args.i c.args.count = given s10 c.decreases c.requires.m_bound c.requires.count_value c.requires.i_lt_count in
+    (fits10 _ _ c.requires.m_bound (two10 (pos_of_ne-zero c.if-m-eq0.false) g) c.requires.count_value).1
 
 pub from10-from01-requires : goal.from10-from01-requires
 from10-from01-requires t c =
-    let g : Given s10 t c.args.m c.args.i c.args.count = given s10 c.decreases c.requires.m_bound c.requires.count_value c.requires.i_lt_count in asks_0 (here10 (pos_of_ne-zero c.if-m-eq0.false) g) c.if-i-zeros.true
+    let g : Given s10 t c.args.m c.args.i c.args.count = given s10 c.decreases c.requires.m_bound c.requires.count_value c.requires.i_lt_count in
+    asks_0 (here10 (pos_of_ne-zero c.if-m-eq0.false) g) c.if-i-zeros.true
 
 pub from10-returns-then-i-zeros : goal.from10-returns-then-i-zeros
 from10-returns-then-i-zeros t c =
-    let g : Given s10 t c.args.m c.args.i c.args.count = given s10 c.decreases c.requires.m_bound c.requires.count_value c.requires.i_lt_count in gives-0 (here10 (pos_of_ne-zero c.if-m-eq0.false) g) c.if-i-zeros.true c.from01.ensures
+    let g : Given s10 t c.args.m c.args.i c.args.count = given s10 c.decreases c.requires.m_bound c.requires.count_value c.requires.i_lt_count in
+    gives-0 (here10 (pos_of_ne-zero c.if-m-eq0.false) g) c.if-i-zeros.true c.from01.ensures
 
 pub from10-from11-requires : goal.from10-from11-requires
 from10-from11-requires t c =
-    let g : Given s10 t c.args.m c.args.i c.args.count = given s10 c.decreases c.requires.m_bound c.requires.count_value c.requires.i_lt_count in asks_1 (here10 (pos_of_ne-zero c.if-m-eq0.false) g) c.if-i-zeros.false
+    let g : Given s10 t c.args.m c.args.i c.args.count = given s10 c.decreases c.requires.m_bound c.requires.count_value c.requires.i_lt_count in
+    asks_1 (here10 (pos_of_ne-zero c.if-m-eq0.false) g) c.if-i-zeros.false
 
 pub from10-overflow_add-result : goal.from10-overflow_add-result
 from10-overflow_add-result t c =
-    let g : Given s10 t c.args.m c.args.i c.args.count = given s10 c.decreases c.requires.m_bound c.requires.count_value c.requires.i_lt_count in record { fits = sum_fits (here10 (pos_of_ne-zero c.if-m-eq0.false) g) c.if-i-zeros.false c.from11.ensures }
+    let g : Given s10 t c.args.m c.args.i c.args.count = given s10 c.decreases c.requires.m_bound c.requires.count_value c.requires.i_lt_count in
+    record { fits = sum_fits (here10 (pos_of_ne-zero c.if-m-eq0.false) g) c.if-i-zeros.false c.from11.ensures }
 
 pub from10-returns : goal.from10-returns
 from10-returns t c =
-    let g : Given s10 t c.args.m c.args.i c.args.count = given s10 c.decreases c.requires.m_bound c.requires.count_value c.requires.i_lt_count in gives-1 (here10 (pos_of_ne-zero c.if-m-eq0.false) g) c.if-i-zeros.false c.from11.ensures
+    let g : Given s10 t c.args.m c.args.i c.args.count = given s10 c.decreases c.requires.m_bound c.requires.count_value c.requires.i_lt_count in
+    gives-1 (here10 (pos_of_ne-zero c.if-m-eq0.false) g) c.if-i-zeros.false c.from11.ensures
 
 pub from11-overflow_sub-rest : goal.from11-overflow_sub-rest
 from11-overflow_sub-rest t c =
-    let g : Given s11 t c.args.m c.args.i c.args.count = given s11 c.decreases c.requires.m_bound c.requires.count_value c.requires.i_lt_count in omega (arith, two11 g)
+    let g : Given s11 t c.args.m c.args.i c.args.count = given s11 c.decreases c.requires.m_bound c.requires.count_value c.requires.i_lt_count in
+    omega (arith, two11 g)
 
 pub from11-overflow_sub-zeros : goal.from11-overflow_sub-zeros
 from11-overflow_sub-zeros t c =
-    let g : Given s11 t c.args.m c.args.i c.args.count = given s11 c.decreases c.requires.m_bound c.requires.count_value c.requires.i_lt_count in (fits11 _ _ c.requires.m_bound (two11 g) c.requires.count_value).0
+    let g : Given s11 t c.args.m c.args.i c.args.count = given s11 c.decreases c.requires.m_bound c.requires.count_value c.requires.i_lt_count in
+    (fits11 _ _ c.requires.m_bound (two11 g) c.requires.count_value).0
 
 pub from11-from11-requires : goal.from11-from11-requires
 from11-from11-requires t c =
-    let g : Given s11 t c.args.m c.args.i c.args.count = given s11 c.decreases c.requires.m_bound c.requires.count_value c.requires.i_lt_count in asks_0 (here11 g) c.if-i-zeros.true
+    let g : Given s11 t c.args.m c.args.i c.args.count = given s11 c.decreases c.requires.m_bound c.requires.count_value c.requires.i_lt_count in
+    asks_0 (here11 g) c.if-i-zeros.true
 
 pub from11-returns-then-i-zeros : goal.from11-returns-then-i-zeros
 from11-returns-then-i-zeros t c =
-    let g : Given s11 t c.args.m c.args.i c.args.count = given s11 c.decreases c.requires.m_bound c.requires.count_value c.requires.i_lt_count in gives-0 (here11 g) c.if-i-zeros.true c.from11.ensures
+    let g : Given s11 t c.args.m c.args.i c.args.count = given s11 c.decreases c.requires.m_bound c.requires.count_value c.requires.i_lt_count in
+    gives-0 (here11 g) c.if-i-zeros.true c.from11.ensures
 
 pub from11-from01-requires : goal.from11-from01-requires
 from11-from01-requires t c =
-    let g : Given s11 t c.args.m c.args.i c.args.count = given s11 c.decreases c.requires.m_bound c.requires.count_value c.requires.i_lt_count in asks_1 (here11 g) c.if-i-zeros.false
+    let g : Given s11 t c.args.m c.args.i c.args.count = given s11 c.decreases c.requires.m_bound c.requires.count_value c.requires.i_lt_count in
+    asks_1 (here11 g) c.if-i-zeros.false
 
 pub from11-overflow_add-result : goal.from11-overflow_add-result
 from11-overflow_add-result t c =
-    let g : Given s11 t c.args.m c.args.i c.args.count = given s11 c.decreases c.requires.m_bound c.requires.count_value c.requires.i_lt_count in record { fits = sum_fits (here11 g) c.if-i-zeros.false c.from01.ensures }
+    let g : Given s11 t c.args.m c.args.i c.args.count = given s11 c.decreases c.requires.m_bound c.requires.count_value c.requires.i_lt_count in
+    record { fits = sum_fits (here11 g) c.if-i-zeros.false c.from01.ensures }
 
 pub from11-returns : goal.from11-returns
 from11-returns t c =
-    let g : Given s11 t c.args.m c.args.i c.args.count = given s11 c.decreases c.requires.m_bound c.requires.count_value c.requires.i_lt_count in gives-1 (here11 g) c.if-i-zeros.false c.from01.ensures
+    let g : Given s11 t c.args.m c.args.i c.args.count = given s11 c.decreases c.requires.m_bound c.requires.count_value c.requires.i_lt_count in
+    gives-1 (here11 g) c.if-i-zeros.false c.from01.ensures

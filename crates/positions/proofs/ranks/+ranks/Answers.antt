@@ -86,23 +86,28 @@ module _ (x : ℕ) {t m count : ℕ} (pos : 1 ≤ m) (g : Given s10 t m x count)
 
 pub rank01-rank10-requires : goal.rank01-rank10-requires
 rank01-rank10-requires t c =
-    let g : Given s01 t c.args.m c.args.x c.args.count = given s01 c.args.x c.decreases c.requires.short c.requires.all c.requires.word in asks_0 (here01 c.args.x g) c.if-x-rest-eq0.true
+    let g : Given s01 t c.args.m c.args.x c.args.count = given s01 c.args.x c.decreases c.requires.short c.requires.all c.requires.word in
+    asks_0 (here01 c.args.x g) c.if-x-rest-eq0.true
 
 pub rank01-returns-then-x-rest-eq0 : goal.rank01-returns-then-x-rest-eq0
 rank01-returns-then-x-rest-eq0 t c =
-    let g : Given s01 t c.args.m c.args.x c.args.count = given s01 c.args.x c.decreases c.requires.short c.requires.all c.requires.word in gives-0 (here01 c.args.x g) c.if-x-rest-eq0.true c.rank10.ensures
+    let g : Given s01 t c.args.m c.args.x c.args.count = given s01 c.args.x c.decreases c.requires.short c.requires.all c.requires.word in
+    gives-0 (here01 c.args.x g) c.if-x-rest-eq0.true c.rank10.ensures
 
 pub rank01-rank10-requires-2 : goal.rank01-rank10-requires-2
 rank01-rank10-requires-2 t c =
-    let g : Given s01 t c.args.m c.args.x c.args.count = given s01 c.args.x c.decreases c.requires.short c.requires.all c.requires.word in asks_1 (here01 c.args.x g) c.if-x-rest-eq0.false
+    let g : Given s01 t c.args.m c.args.x c.args.count = given s01 c.args.x c.decreases c.requires.short c.requires.all c.requires.word in
+    asks_1 (here01 c.args.x g) c.if-x-rest-eq0.false
 
 pub rank01-overflow_add-result : goal.rank01-overflow_add-result
 rank01-overflow_add-result t c =
-    let g : Given s01 t c.args.m c.args.x c.args.count = given s01 c.args.x c.decreases c.requires.short c.requires.all c.requires.word in omega (arith, sum_lt (here01 c.args.x g) c.if-x-rest-eq0.false c.rank10-2.ensures)
+    let g : Given s01 t c.args.m c.args.x c.args.count = given s01 c.args.x c.decreases c.requires.short c.requires.all c.requires.word in
+    omega (arith, sum_lt (here01 c.args.x g) c.if-x-rest-eq0.false c.rank10-2.ensures)
 
 pub rank01-returns : goal.rank01-returns
 rank01-returns t c =
-    let g : Given s01 t c.args.m c.args.x c.args.count = given s01 c.args.x c.decreases c.requires.short c.requires.all c.requires.word in gives-1 (here01 c.args.x g) c.if-x-rest-eq0.false c.rank10-2.ensures
+    let g : Given s01 t c.args.m c.args.x c.args.count = given s01 c.args.x c.decreases c.requires.short c.requires.all c.requires.word in
+    gives-1 (here01 c.args.x g) c.if-x-rest-eq0.false c.rank10-2.ensures
 
 pub rank10-returns-then-m-eq0 : goal.rank10-returns-then-m-eq0
 rank10-returns-then-m-eq0 t c =
@@ -110,56 +115,70 @@ rank10-returns-then-m-eq0 t c =
 
 pub rank10-overflow_sub-ones : goal.rank10-overflow_sub-ones
 rank10-overflow_sub-ones t c =
-    let g : Given s10 t c.args.m c.args.x c.args.count = given s10 c.args.x c.decreases c.requires.short c.requires.all c.requires.word in (fit10 c.args.x (pos_of_ne-zero c.if-m-eq0.false) g).0
+    let g : Given s10 t c.args.m c.args.x c.args.count = given s10 c.args.x c.decreases c.requires.short c.requires.all c.requires.word in
+    (fit10 c.args.x (pos_of_ne-zero c.if-m-eq0.false) g).0
 
 pub rank10-overflow_sub-zeros : goal.rank10-overflow_sub-zeros
 rank10-overflow_sub-zeros t c =
-    let g : Given s10 t c.args.m c.args.x c.args.count = given s10 c.args.x c.decreases c.requires.short c.requires.all c.requires.word in (fit10 c.args.x (pos_of_ne-zero c.if-m-eq0.false) g).1
+    let g : Given s10 t c.args.m c.args.x c.args.count = given s10 c.args.x c.decreases c.requires.short c.requires.all c.requires.word in
+    (fit10 c.args.x (pos_of_ne-zero c.if-m-eq0.false) g).1
 
 pub rank10-rank01-requires : goal.rank10-rank01-requires
 rank10-rank01-requires t c =
-    let g : Given s10 t c.args.m c.args.x c.args.count = given s10 c.args.x c.decreases c.requires.short c.requires.all c.requires.word in asks_0 (here10 c.args.x (pos_of_ne-zero c.if-m-eq0.false) g) c.if-x-rest-eq0.true
+    let g : Given s10 t c.args.m c.args.x c.args.count = given s10 c.args.x c.decreases c.requires.short c.requires.all c.requires.word in
+    asks_0 (here10 c.args.x (pos_of_ne-zero c.if-m-eq0.false) g) c.if-x-rest-eq0.true
 
 pub rank10-returns-then-x-rest-eq0 : goal.rank10-returns-then-x-rest-eq0
 rank10-returns-then-x-rest-eq0 t c =
-    let g : Given s10 t c.args.m c.args.x c.args.count = given s10 c.args.x c.decreases c.requires.short c.requires.all c.requires.word in gives-0 (here10 c.args.x (pos_of_ne-zero c.if-m-eq0.false) g) c.if-x-rest-eq0.true c.rank01.ensures
+    let g : Given s10 t c.args.m c.args.x c.args.count = given s10 c.args.x c.decreases c.requires.short c.requires.all c.requires.word in
+    gives-0 (here10 c.args.x (pos_of_ne-zero c.if-m-eq0.false) g) c.if-x-rest-eq0.true c.rank01.ensures
 
 pub rank10-rank11-requires : goal.rank10-rank11-requires
 rank10-rank11-requires t c =
-    let g : Given s10 t c.args.m c.args.x c.args.count = given s10 c.args.x c.decreases c.requires.short c.requires.all c.requires.word in asks_1 (here10 c.args.x (pos_of_ne-zero c.if-m-eq0.false) g) c.if-x-rest-eq0.false
+    let g : Given s10 t c.args.m c.args.x c.args.count = given s10 c.args.x c.decreases c.requires.short c.requires.all c.requires.word in
+    asks_1 (here10 c.args.x (pos_of_ne-zero c.if-m-eq0.false) g) c.if-x-rest-eq0.false
 
 pub rank10-overflow_add-result : goal.rank10-overflow_add-result
 rank10-overflow_add-result t c =
-    let g : Given s10 t c.args.m c.args.x c.args.count = given s10 c.args.x c.decreases c.requires.short c.requires.all c.requires.word in omega (arith, sum_lt (here10 c.args.x (pos_of_ne-zero c.if-m-eq0.false) g) c.if-x-rest-eq0.false c.rank11.ensures)
+    let g : Given s10 t c.args.m c.args.x c.args.count = given s10 c.args.x c.decreases c.requires.short c.requires.all c.requires.word in
+    omega (arith, sum_lt (here10 c.args.x (pos_of_ne-zero c.if-m-eq0.false) g) c.if-x-rest-eq0.false c.rank11.ensures)
 
 pub rank10-returns : goal.rank10-returns
 rank10-returns t c =
-    let g : Given s10 t c.args.m c.args.x c.args.count = given s10 c.args.x c.decreases c.requires.short c.requires.all c.requires.word in gives-1 (here10 c.args.x (pos_of_ne-zero c.if-m-eq0.false) g) c.if-x-rest-eq0.false c.rank11.ensures
+    let g : Given s10 t c.args.m c.args.x c.args.count = given s10 c.args.x c.decreases c.requires.short c.requires.all c.requires.word in
+    gives-1 (here10 c.args.x (pos_of_ne-zero c.if-m-eq0.false) g) c.if-x-rest-eq0.false c.rank11.ensures
 
 pub rank11-overflow_sub-zeros : goal.rank11-overflow_sub-zeros
 rank11-overflow_sub-zeros t c =
-    let g : Given s11 t c.args.m c.args.x c.args.count = given s11 c.args.x c.decreases c.requires.short c.requires.all c.requires.word in (fits11 _ _ (few11 c.args.x g) (two11 c.args.x g) c.requires.all).0
+    let g : Given s11 t c.args.m c.args.x c.args.count = given s11 c.args.x c.decreases c.requires.short c.requires.all c.requires.word in
+    (fits11 _ _ (few11 c.args.x g) (two11 c.args.x g) c.requires.all).0
 
 pub rank11-rank11-requires : goal.rank11-rank11-requires
 rank11-rank11-requires t c =
-    let g : Given s11 t c.args.m c.args.x c.args.count = given s11 c.args.x c.decreases c.requires.short c.requires.all c.requires.word in asks_0 (here11 c.args.x g) c.if-x-rest-eq0.true
+    let g : Given s11 t c.args.m c.args.x c.args.count = given s11 c.args.x c.decreases c.requires.short c.requires.all c.requires.word in
+    asks_0 (here11 c.args.x g) c.if-x-rest-eq0.true
 
 pub rank11-returns-then-x-rest-eq0 : goal.rank11-returns-then-x-rest-eq0
 rank11-returns-then-x-rest-eq0 t c =
-    let g : Given s11 t c.args.m c.args.x c.args.count = given s11 c.args.x c.decreases c.requires.short c.requires.all c.requires.word in gives-0 (here11 c.args.x g) c.if-x-rest-eq0.true c.rank11.ensures
+    let g : Given s11 t c.args.m c.args.x c.args.count = given s11 c.args.x c.decreases c.requires.short c.requires.all c.requires.word in
+    gives-0 (here11 c.args.x g) c.if-x-rest-eq0.true c.rank11.ensures
 
 pub rank11-overflow_sub-count : goal.rank11-overflow_sub-count
 rank11-overflow_sub-count t c =
-    let g : Given s11 t c.args.m c.args.x c.args.count = given s11 c.args.x c.decreases c.requires.short c.requires.all c.requires.word in (fits11 _ _ (few11 c.args.x g) (two11 c.args.x g) c.requires.all).1
+    let g : Given s11 t c.args.m c.args.x c.args.count = given s11 c.args.x c.decreases c.requires.short c.requires.all c.requires.word in
+    (fits11 _ _ (few11 c.args.x g) (two11 c.args.x g) c.requires.all).1
 
 pub rank11-rank01-requires : goal.rank11-rank01-requires
 rank11-rank01-requires t c =
-    let g : Given s11 t c.args.m c.args.x c.args.count = given s11 c.args.x c.decreases c.requires.short c.requires.all c.requires.word in asks_1 (here11 c.args.x g) c.if-x-rest-eq0.false
+    let g : Given s11 t c.args.m c.args.x c.args.count = given s11 c.args.x c.decreases c.requires.short c.requires.all c.requires.word in
+    asks_1 (here11 c.args.x g) c.if-x-rest-eq0.false
 
 pub rank11-overflow_add-result : goal.rank11-overflow_add-result
 rank11-overflow_add-result t c =
-    let g : Given s11 t c.args.m c.args.x c.args.count = given s11 c.args.x c.decreases c.requires.short c.requires.all c.requires.word in omega (arith, sum_lt (here11 c.args.x g) c.if-x-rest-eq0.false c.rank01.ensures)
+    let g : Given s11 t c.args.m c.args.x c.args.count = given s11 c.args.x c.decreases c.requires.short c.requires.all c.requires.word in
+    omega (arith, sum_lt (here11 c.args.x g) c.if-x-rest-eq0.false c.rank01.ensures)
 
 pub rank11-returns : goal.rank11-returns
 rank11-returns t c =
-    let g : Given s11 t c.args.m c.args.x c.args.count = given s11 c.args.x c.decreases c.requires.short c.requires.all c.requires.word in gives-1 (here11 c.args.x g) c.if-x-rest-eq0.false c.rank01.ensures
+    let g : Given s11 t c.args.m c.args.x c.args.count = given s11 c.args.x c.decreases c.requires.short c.requires.all c.requires.word in
+    gives-1 (here11 c.args.x g) c.if-x-rest-eq0.false c.rank01.ensures
