@@ -1,0 +1,23 @@
+-- `add_line` meets its contract: the line is put where it fits, and else nothing is done.
+use native.Mathlib.Omega.{arith}
+use Rattle.lines.specs.Inner.{line_from}
+use Rattle.lines.proofs.Putting.{lined_front}
+use Rattle.lines.proofs.Fitting.{line_fits, line_full}
+use Rattle.lines.proofs.fill.add_line.Goals as goal
+
+pub returns-then-out-used-ge63 : goal.returns-then-out-used-ge63
+returns-then-out-used-ge63 c =
+    let put = c.put_pair.ensures in
+    line_fits (omega (arith, put.placed.next, put.upper_bound, c.if-out-used-ge63.true)) put.placed
+
+pub returns-then-out-used : goal.returns-then-out-used
+returns-then-out-used c =
+    let a = c.args in
+    line_full (line_from a.from a.codes.now a.i) (omega (arith, c.pair_line-size.ensures.size, c.if-out-used.true))
+
+pub returns : goal.returns
+returns c =
+    let l = c.pair_line-size.ensures in
+    let bytes = lined_front l in
+    let fits = c.if-out-used.false in
+    line_fits (omega (arith, l.size, fits)) (rw bytes at c.copy.ensures)

@@ -1,0 +1,12 @@
+-- `is_digit` meets its contract: one test for each end of the digits.
+use borrow.Author.Tests.{lt-leb, le-leb}
+use Rattle.lines.specs.Input.{is_digit}
+use Rattle.lines.proofs.input.is_digit.Goals as goal
+
+pub returns-then-byte-lt48 : goal.returns-then-byte-lt48
+unfolding is_digit
+returns-then-byte-lt48 c = rw (lt-leb 48 c.args.byte c.if-byte-lt48.true)
+
+pub returns : goal.returns
+unfolding is_digit
+returns c = rw (le-leb 48 c.args.byte c.if-byte-lt48.false)
