@@ -1,50 +1,113 @@
 #!/usr/bin/env python3
-"""Reads what `rt mir console` prints, the code that is proved and compiled, and holds two calls to what no contract can say. The chain call
-is a loop: no function that it uses calls itself, straight or through others, so the number of frames has a bound that does not depend on
-the quotients. The call for the longest chains takes constant time: no function that it uses calls itself or has a loop. The pair call,
-whose word readers call each other, and the chain call's loop show that both are seen."""
+"""Holds two calls to what no contract can say. The chain call is a loop: no function that it uses calls itself, straight or through others,
+so the number of frames has a bound that does not depend on the quotients. The call for the longest chains takes constant time: no function
+that it uses calls itself or has a loop. Both are looked for twice: in the code that is proved, as the libraries below the console keep it for
+the compiler, from the functions that the two calls are written over; and in the machine code of the archive, whose path is the argument, from
+the two calls themselves. The pair call, whose word readers call each other, and the chain call's loop show that both are seen."""
+import json
 import re
+import subprocess
 import sys
-
-calls, loops = {}, set()
-for function in sys.stdin.read().split('(fn-def "')[1:]:
-    name = function[: function.index('"')]
-    callees = re.findall(r'\(call \(direct \(fnRef "([^"]*)"\)\)', function)
-    if name in calls or len(callees) != function.count("(call "):
-        sys.exit(f"{name}: defined twice, or a call in another form")
-    calls[name] = set(callees)
-    if "(loop " in function:
-        loops.add(name)
+from pathlib import Path
 
 
-def used(name):
-    """The functions that a function calls, straight or through others."""
-    found, ahead = set(), [name]
-    while ahead:
-        new = calls[ahead.pop()] - found
-        found |= new
-        ahead += new
-    return found
+def proved():
+    """What each function of the libraries calls, and those that have a loop: the code that is proved, which a build of a library keeps."""
+    calls, loops = {}, set()
+    for file in Path("crates").glob("*/out/rlib/*.rlib/toolchain/mir.json"):
+        for name, function in json.loads(file.read_text()):
+            if name in calls:
+                sys.exit(f"{name}: defined twice")
+            calls[name], ahead = set(), [function["body"]]
+            while ahead:
+                part = ahead.pop()
+                if part == "Loop":
+                    loops.add(name)
+                elif isinstance(part, list):
+                    ahead += part
+                elif isinstance(part, dict):
+                    for kind, inside in part.items():
+                        if "Call" in kind:
+                            if kind != "Call" or list(inside[0]) != ["Fn"]:
+                                sys.exit(f"{name}: a call in another form")
+                            calls[name].add(inside[0]["Fn"][0])
+                        elif kind == "Loop":
+                            loops.add(name)
+                        ahead.append(inside)
+    return calls, loops
 
 
-def calling_themselves(name):
-    return sorted(f for f in used(name) | {name} if f in used(f))
+def compiled(archive):
+    """The same of the archive's machine code. A jump back is a loop, and so is an instruction that repeats itself; a jump or a call to a place
+    that is only known as it runs is none of what is looked for here, and is given a name that no function has."""
+    listing = subprocess.run(["objdump", "-dr", "--no-show-raw-insn", archive], stdout=subprocess.PIPE, check=True, text=True).stdout
+    calls, loops, name = {}, set(), None
+    lines = listing.splitlines()
+    for line, behind in zip(lines, lines[1:] + [""]):
+        head = re.fullmatch(r"([0-9a-f]+) <(.*)>:", line)
+        step = re.match(r" *([0-9a-f]+):\t(.*)", line)
+        if head:
+            name = head[2]
+            if name in calls or int(head[1], 16) != 0:
+                sys.exit(f"{name}: defined twice, or not in a section of its own")
+            calls[name] = set()
+        elif step:
+            words = step[2].split()
+            if any(it.startswith("rep") for it in words[:2]):
+                loops.add(name)
+            jump = [it for it in words if re.match(r"j|call|loop|xbegin", it)]
+            if not jump:
+                continue
+            to = re.search(r"<(.*?)(?:\+0x([0-9a-f]+))?>$", step[2])
+            away = re.match(r"\t\t\t[0-9a-f]+: R_X86_64_(?:PLT|PC)32\t(.*)-0x4$", behind)
+            if "*" in step[2] or not to:
+                calls[name].add(f"a place that is known only as {name} runs")
+            elif away:
+                calls[name].add(re.sub(r"^\.text\.", "", away[1]))
+            elif behind.startswith("\t\t\t") or to[1] != name:
+                sys.exit(f"{name}: a jump in another form: {step[2]}")
+            elif jump[0].startswith("call"):
+                calls[name].add(name)
+                if to[2]:
+                    sys.exit(f"{name}: a call into its own middle")
+            elif int(to[2] or "0", 16) <= int(step[1], 16):
+                loops.add(name)
+    return calls, loops
 
 
-def frames(name):
-    return 1 + max((frames(f) for f in calls[name]), default=0)
+def hold(code, known, chain, longest, pair):
+    calls, loops = code
+
+    def used(name):
+        """The functions that a function calls, straight or through others."""
+        found, ahead = set(), [name]
+        while ahead:
+            at = ahead.pop()
+            if at not in calls and at not in known:
+                sys.exit(f"{name} calls {at}, whose code is not here")
+            new = calls.get(at, set()) - found
+            found |= new
+            ahead += new
+        return found
+
+    def calling_themselves(name):
+        return sorted(f for f in used(name) | {name} if f in used(f))
+
+    def frames(name):
+        return 1 + max((frames(f) for f in calls.get(name, ())), default=0)
+
+    def looping(name):
+        return sorted((used(name) | {name}) & (loops | known))
+
+    if calling_themselves(chain):
+        sys.exit(f"chain call: {', '.join(calling_themselves(chain))}: calls itself")
+    if calling_themselves(longest) + looping(longest):
+        sys.exit(f"longest chains: {', '.join(calling_themselves(longest) + looping(longest))}: calls itself or has a loop")
+    if not calling_themselves(pair) or not looping(chain):
+        sys.exit("no word reader is seen to call another, or the chain call is seen to have no loop")
+    print(f"{chain}: {len(used(chain))} functions below it, none calls itself; {frames(chain)} frames at most")
+    print(f"{longest}: {len(used(longest))} functions below it, none calls itself or has a loop")
 
 
-def looping(name):
-    return sorted((used(name) | {name}) & loops)
-
-
-CHAIN, LONGEST, PAIR = "console::chains::dw_chain", "console::chains::dw_longest_chains", "console::lists::dw_pair_at"
-if calling_themselves(CHAIN):
-    sys.exit(f"chain call: {', '.join(calling_themselves(CHAIN))}: calls itself")
-if calling_themselves(LONGEST) + looping(LONGEST):
-    sys.exit(f"longest chains: {', '.join(calling_themselves(LONGEST) + looping(LONGEST))}: calls itself or has a loop")
-if not calling_themselves(PAIR) or not looping(CHAIN):
-    sys.exit("no word reader is seen to call another, or the chain call is seen to have no loop")
-print(f"chain call: {len(used(CHAIN))} functions below it, none calls itself; {frames(CHAIN)} frames at most")
-print(f"longest chains: {len(used(LONGEST))} functions below it, none calls itself or has a loop")
+hold(proved(), set(), "euclid::quotients", "longest::longest_chains", "pairs::pair::pair_at")
+hold(compiled(sys.argv[1]), {"memcpy", "memset"}, "dw_chain", "dw_longest_chains", "dw_pair_at")
