@@ -1,5 +1,5 @@
 #!/usr/bin/env python3
-"""What tests/lent.program must print. The pairs of degree 3 are filtered by Euclid's algorithm (list_reference.py); the last pair of degree
+"""What the program lent must print. The pairs of degree 3 are filtered by Euclid's algorithm (list_reference.py); the last pair of degree
 31 is worked by counting choices (reference.py)."""
 from list_reference import pairs
 from reference import pair_at
