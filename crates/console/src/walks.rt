@@ -1,4 +1,4 @@
-// Walks, for C. An exported function that takes a lent record is proved by hand, over a core that takes and gives the record by value.
+// Walks, for C. An exported function that takes a lent record stands over a core that takes and gives the record by value.
 ghost use Rattle.std.specs.Prelude.{◌≡◌};
 ghost use Rattle.walk.specs.Walks.{change_reply, next_reply};
 ghost use Rattle.console.specs.Status.{status};

@@ -3,7 +3,7 @@ use Rattle.std.specs.Prelude.{ℕ, zero, suc, List, [], ◌∷◌}
 use Rattle.poly.specs.Code.{add, mul}
 use Rattle.poly.specs.Division.{divide}
 
--- The quotients in the order of the divisions, and the last divisor, which is `gcd p a b` (the law `chain-divisor`).
+-- The quotients in the order of the divisions, and the last divisor, which is `gcd p a b` (the law `chain_divisor`).
 pub record Chain : Type 0 where
   pub quotients : List ℕ
   pub divisor : ℕ

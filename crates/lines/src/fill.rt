@@ -70,7 +70,7 @@ fn add_lines(from: u64, many: usize, codes: &[u32; 512], out: &mut [u8], used: u
 }
 
 // The line of the i-th pair behind the `used` bytes, where it fits. With room for any line it is made in its place, else apart. Where
-// `pairs_from` gave the codes, it is the line of the pair's own position (the law `block-lines`).
+// `pairs_from` gave the codes, it is the line of the pair's own position (the law `block_lines_lem`).
 fn add_line(from: u64, i: usize, codes: &[u32; 512], out: &mut [u8], used: usize) -> usize
     requires { (from < 2 ^ 63) × (i < 256) × (used ≤ length out.old) }
     ensures { AddsLine (line_from from codes.now i) out.old used result out.new }

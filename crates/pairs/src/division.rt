@@ -2,7 +2,7 @@
 // gap, and a division takes several times as long.
 ghost use Rattle.std.specs.Prelude.{◌≡◌, ◌+◌, ◌*◌, ◌/◌, ◌^◌};
 
-// x / d, where d divides x and is not 0: the law `share-exact`.
+// x / d, where d divides x and is not 0: the law `share_exact`.
 pub fn share(x: u32, d: u32) -> u32
     ensures { result ≡ x * (2 ^ 32 / d + 1) / 2 ^ 32 }
 {

@@ -12,7 +12,6 @@ use Rattle.poly.specs.Division.{inverse, HasInverses, divide}
 use Rattle.poly.specs.Coprime.{Divides, Coprime, gcd, gcd_in}
 use Rattle.poly.proofs.Digits.{p_pos}
 use Rattle.poly.proofs.Ring
-use Rattle.poly.proofs.Blocks
 use Rattle.poly.proofs.Leading
 use Rattle.poly.proofs.Division
 

@@ -20,7 +20,7 @@ off_degree n code = ltb code (2 ^ n) || leb (2 ^ suc n) code
 unfoldable pub code_causes : ℕ → ℕ → List Cause
 code_causes n code = off_degree n code gives 6 ∷ eqb (code % 2) 0 gives 7 ∷ []
 
--- 8: common factor, that is, not `Coprime 2 f g`; the law `coprime-one` ties the two.
+-- 8: common factor, that is, not `Coprime 2 f g`; the law `coprime_one` ties the two.
 abbrev pub common_factor : ℕ → ℕ → Cause
 common_factor f g = not (eqb (gcd 2 f g) 1) gives 8
 

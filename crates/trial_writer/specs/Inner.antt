@@ -3,7 +3,7 @@ use Rattle.std.specs.Prelude.{false, ◌≡◌, ℕ, suc, ◌+◌, ◌≤◌, Li
 use Rattle.poly.specs.Limits.{outside}
 use Rattle.trial.specs.Trial.{encode_body}
 
--- The lists that a version has, of the three that a call passes: those of `trialFrom`.
+-- The lists that a version has, of the three that a call passes: those of `trial_from`.
 abbrev pub lists_from : ℕ → List ℕ → List ℕ → List ℕ → List (List ℕ)
 lists_from v powers forces times = take (suc v) (powers ∷ forces ∷ times ∷ [])
 

@@ -1,4 +1,4 @@
--- Laws of `anyAbove`: one number more, one number read, one number written.
+-- Laws of `any_above`: one number more, one number read, one number written.
 use mathlib.Core.Bool.{false, ◌||◌, or-false, or_assoc}
 use mathlib.Core.List.{List, [], ◌∷◌}
 use mathlib.Core.Path.{◌≡◌, refl}

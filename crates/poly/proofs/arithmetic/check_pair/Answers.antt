@@ -1,7 +1,6 @@
 -- `check_pair` meets its contract: g counts only where f has passed.
 use mathlib.Core.List.{[]}
 use mathlib.Core.Path.{sym, ap, ◌∙◌}
-use borrow.Author.Rules.{rules}
 use Rattle.reply.specs.Reply.{served}
 use Rattle.reply.proofs.Order.{passed, failed}
 use Rattle.poly.specs.Causes.{code_causes}

@@ -4,7 +4,7 @@ use native.Mathlib.Nat.{le_refl, pos_of_ne-zero, lt_of_lt_of_le, lt_trans}
 use native.Mathlib.Omega.{arith}
 use lib.Dec.{lit<}
 use lib.Bits.{bit_xor}
-use lib.Count.{count_leading_zeros, leading_top}
+use lib.Count.{leading_top}
 use lib.Pow.{pow-lt, shl_exact, high, ones_lt, ones_split, lt_of_le_ones}
 use Rattle.poly.specs.Code.{add, mul, HasDegree}
 use Rattle.poly.specs.Division.{divide}

@@ -1,21 +1,9 @@
 -- `divide` meets its contract. The invariant: quotient times b plus remainder is a. A turn adds the same multiple of b to both sides and
 -- clears the remainder's leading term; at the end the remainder is small, and division is unique.
-use mathlib.Core.Path.{◌≡◌, sym, ap, ◌∙◌}
-use Prim.Native.Nat.{ℕ, suc, ◌+◌, ◌-◌, ◌*◌, ◌/◌, ◌%◌, ◌^◌, ◌≤◌, ◌<◌}
-use native.Mathlib.Nat.{le_refl, pos_of_ne-zero, lt_of_lt_of_le, lt_trans}
-use native.Mathlib.Omega.{arith}
-use lib.Dec.{lit<}
-use lib.Bits.{bit_xor}
-use lib.Count.{count_leading_zeros, leading_top}
-use lib.Pow.{pow-lt, shl_exact, high, ones_lt, ones_split, lt_of_le_ones}
-use Rattle.poly.specs.Code.{add, mul, HasDegree}
-use Rattle.poly.specs.Division.{divide}
-use Rattle.poly.proofs.Ring
-use Rattle.poly.proofs.Blocks
-use Rattle.poly.proofs.Leading
-use Rattle.poly.proofs.Division.{divide_is}
-use Rattle.poly.proofs.Binary.{add_xor, leads_cancel}
-use Rattle.poly.proofs.Primes.{inverses_2}
+use mathlib.Core.Path.{◌≡◌}
+use Prim.Native.Nat.{ℕ, ◌/◌, ◌^◌, ◌<◌}
+use lib.Count.{count_leading_zeros}
+use Rattle.poly.specs.Code.{add, mul}
 use Rattle.poly.proofs.arithmetic.divide.Given as goal
 
 abbrev pub zeros : ℕ → ℕ

@@ -1,7 +1,6 @@
 -- `product` meets its contract: the factors may change places.
 use mathlib.Core.Path.{◌∙◌}
 use native.Mathlib.Nat.{le_refl}
-use borrow.Author.Rules.{rules}
 use Rattle.poly.proofs.Ring.{mul_comm}
 use Rattle.poly.proofs.arithmetic.product.Goals as goal
 

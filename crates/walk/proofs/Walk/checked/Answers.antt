@@ -1,4 +1,4 @@
--- `checked` meets its contract: its tests are those of `badRecord`, one after the other.
+-- `checked` meets its contract: its tests are those of `bad_record`, one after the other.
 use mathlib.Core.Bool.{Bool, ◌||◌}
 use mathlib.Core.Path.{sym, ap, ◌∙◌}
 use Prim.Native.Nat.{ℕ, ◌+◌}

@@ -1,7 +1,6 @@
 -- `Degree::order` meets its contract: a shift of 1 by at most 31 places loses nothing.
 use mathlib.Core.Path.{sym, ◌∙◌}
 use Prim.Native.Nat.{◌≤◌}
-use borrow.Author.Rules.{rules}
 use native.Mathlib.Omega.{arith}
 use Rattle.poly.proofs.Ranges.{within}
 use Rattle.poly.proofs.Shifts.{one_shl}
