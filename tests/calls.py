@@ -12,7 +12,8 @@ from pathlib import Path
 
 
 def proved():
-    """What each function of the libraries calls, and those that have a loop: the code that is proved, which a build of a library keeps."""
+    """What each function of the libraries calls, and those that have a loop: the code that is proved, which a build of a library keeps. A
+    call through a trait gets a name that no function has, so that it is refused where one of the two calls uses it."""
     calls, loops = {}, set()
     for file in Path("crates").glob("*/out/rlib/*.rlib/toolchain/mir.json"):
         for name, function in json.loads(file.read_text()):
@@ -28,9 +29,8 @@ def proved():
                 elif isinstance(part, dict):
                     for kind, inside in part.items():
                         if "Call" in kind:
-                            if kind != "Call" or list(inside[0]) != ["Fn"]:
-                                sys.exit(f"{name}: a call in another form")
-                            calls[name].add(inside[0]["Fn"][0])
+                            is_named = kind == "Call" and list(inside[0]) == ["Fn"]
+                            calls[name].add(inside[0]["Fn"][0] if is_named else f"a function that only a caller of {name} names")
                         elif kind == "Loop":
                             loops.add(name)
                         ahead.append(inside)
@@ -38,8 +38,8 @@ def proved():
 
 
 def compiled(archive):
-    """The same of the archive's machine code. A jump back is a loop, and so is an instruction that repeats itself; a jump or a call to a place
-    that is only known as it runs is none of what is looked for here, and is given a name that no function has."""
+    """The same of the archive's machine code. A jump back is a loop, and so is an instruction that repeats itself. A jump or a call to a place
+    that is known only as the code runs gets a name that no function has, so that it is refused where one of the two calls uses it."""
     listing = subprocess.run(["objdump", "-dr", "--no-show-raw-insn", archive], stdout=subprocess.PIPE, check=True, text=True).stdout
     calls, loops, name = {}, set(), None
     lines = listing.splitlines()
