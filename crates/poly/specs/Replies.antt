@@ -1,19 +1,15 @@
 -- The replies of this crate's calls: each answer as the paper speaks of it, and the reply that the paper gives.
-use Rattle.std.specs.Prelude.{ℕ, ◌^◌, [], ◌∷◌, ◌++◌}
-use Rattle.reply.specs.Numbers.{number_of}
-use Rattle.reply.specs.Reply.{Reply, served, refused, unless}
+use Rattle.std.specs.Prelude.{ℕ, ⊤, Result, ◌^◌, [], ◌∷◌, ◌++◌}
+use Rattle.reply.specs.Reply.{Reply, served, unless}
+use Rattle.reply.specs.Answers.{answer_reply}
+use Rattle.reply.specs.declared.Refusal.{Refusal}
 use Rattle.poly.specs.Limits.{list_length}
 use Rattle.poly.specs.Causes.{degree_cause, code_causes}
-use Rattle.poly.specs.declared.limits.Count.{Count}
-use Rattle.poly.specs.declared.limits.Count.TheVariants.{Is, Refused}
-use Rattle.poly.specs.declared.arithmetic.Checked.{Checked}
-use Rattle.poly.specs.declared.arithmetic.Checked.TheVariants.{Passed, Refused as Fails}
 use Rattle.poly.specs.declared.arithmetic.Divided.{Divided}
 use Rattle.poly.specs.Division.{Division}
 
-abbrev pub count_reply : Count → Reply
-count_reply (Is number) = served (number ∷ [])
-count_reply (Refused refusal) = refused (number_of refusal)
+abbrev pub count_reply : Result ℕ Refusal → Reply
+count_reply = answer_reply (λ number. number ∷ [])
 
 -- The order 2^n of a degree's squares.
 abbrev pub order_reply : ℕ → Reply
@@ -23,9 +19,9 @@ order_reply n = unless (degree_cause n ∷ []) (served (2 ^ n ∷ []))
 abbrev pub length_reply : ℕ → Reply
 length_reply n = unless (degree_cause n ∷ []) (served (list_length n ∷ []))
 
-abbrev pub checked_reply : Checked → Reply
-checked_reply Passed = served []
-checked_reply (Fails refusal) = refused (number_of refusal)
+-- A check gives no value.
+abbrev pub checked_reply : Result ⊤ Refusal → Reply
+checked_reply = answer_reply (λ _. [])
 
 -- A code tried against the degree n, whatever n is: 1 is not given here.
 abbrev pub check_reply : ℕ → ℕ → Reply

@@ -16,37 +16,27 @@ pub fn degree_of(code: u32) -> u32
     31 - u32::leading_zeros(code)
 }
 
-// What a check answers.
-#[derive(Clone, Copy)]
-pub enum Checked {
-    Passed,
-    Refused(Refusal),
-}
-
 // Whether a code may stand at degree n. The degree itself is not judged here: at 0 the code 1 passes, above 31 every code gets 6.
-pub fn check(n: u32, code: u32) -> Checked
+pub fn check(n: u32, code: u32) -> Result<(), Refusal>
     ensures { checked_reply result ≡ check_reply n code }
 {
     if code == 0 {
-        return Checked::Refused(Refusal::CodeDegree);
+        return Err(Refusal::CodeDegree);
     }
     if degree_of(code) != n {
-        return Checked::Refused(Refusal::CodeDegree);
+        return Err(Refusal::CodeDegree);
     }
     if code % 2 == 0 {
-        return Checked::Refused(Refusal::ConstantTerm);
+        return Err(Refusal::ConstantTerm);
     }
-    Checked::Passed
+    Ok(())
 }
 
 // The same for two codes, f before g.
-pub fn check_pair(n: u32, f: u32, g: u32) -> Checked
+pub fn check_pair(n: u32, f: u32, g: u32) -> Result<(), Refusal>
     ensures { checked_reply result ≡ check_pair_reply n f g }
 {
-    let first = check(n, f);
-    if let Checked::Refused(refusal) = first {
-        return Checked::Refused(refusal);
-    }
+    check(n, f)?;
     check(n, g)
 }
 

@@ -4,5 +4,5 @@
 mod arithmetic;
 mod limits;
 
-pub use arithmetic::{Checked, Divided, check, check_pair, degree_of, divide, product, scaled};
-pub use limits::{Count, Degree};
+pub use arithmetic::{Divided, check, check_pair, degree_of, divide, product, scaled};
+pub use limits::Degree;

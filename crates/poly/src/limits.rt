@@ -10,13 +10,6 @@ pub struct Degree {
     pub n: u32,
 }
 
-// A number, or why there is none.
-#[derive(Clone, Copy)]
-pub enum Count {
-    Is(u64),
-    Refused(Refusal),
-}
-
 impl Degree {
     // The least degree and the greatest.
     pub const LEAST: u32 = 1;
@@ -40,25 +33,25 @@ impl Degree {
     }
 
     // The order of the squares, 2^n.
-    pub fn order(self) -> Count
+    pub fn order(self) -> Result<u64, Refusal>
         ensures { count_reply result ≡ order_reply self.n }
     {
         if self.outside() {
-            return Count::Refused(Refusal::DegreeRange);
+            return Err(Refusal::DegreeRange);
         }
         let n = self.n;
-        Count::Is(1u64 << n)
+        Ok(1u64 << n)
     }
 
     // The length of the list of coprime pairs, 2(4^(n-1) - 1)/3.
-    pub fn list_length(self) -> Count
+    pub fn list_length(self) -> Result<u64, Refusal>
         ensures { count_reply result ≡ length_reply self.n }
     {
         if self.outside() {
-            return Count::Refused(Refusal::DegreeRange);
+            return Err(Refusal::DegreeRange);
         }
         let n = self.n;
-        Count::Is(2 * ((1u64 << (2 * (n - 1))) - 1) / 3)
+        Ok(2 * ((1u64 << (2 * (n - 1))) - 1) / 3)
     }
 }
 
