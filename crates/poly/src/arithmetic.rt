@@ -58,11 +58,9 @@ pub fn product(a: u32, b: u32) -> u64
 fn times(a: u32, b: u32) -> u64
     ensures { result ≡ mul 2 a b }
 {
-    let mut left = degree_of(a) + 1;
     let mut sum: u64 = 0;
-    while 0 < left {
-        left -= 1;
-        sum = (sum << 1) ^ scaled(b, a >> left) as u64;
+    for place in (0..degree_of(a) + 1).rev() {
+        sum = (sum << 1) ^ scaled(b, a >> place) as u64;
     }
     sum
 }

@@ -59,8 +59,5 @@ impl Degree {
 fn off(low: u32, high: u32, n: u32) -> bool
     ensures { result ≡ outside low high n }
 {
-    if n < low {
-        return true;
-    }
-    high < n
+    n < low || high < n
 }

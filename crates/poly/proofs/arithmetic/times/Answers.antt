@@ -1,3 +1,4 @@
+-- `times` meets its contract: each turn takes one bit more of a, highest first.
 use mathlib.Core.Path.{◌≡◌, sym, ap, ap₂, ◌∙◌}
 use Prim.Native.Nat.{ℕ, suc, ◌+◌, ◌-◌, ◌*◌, ◌/◌, ◌%◌, ◌^◌, ◌<◌}
 use native.Mathlib.Nat.{le_refl, div-one, div-eq_of_lt, mod-eq_of_lt, div-div-eq-div-mul, pow-suc, lt_of_lt_of_le}
@@ -34,34 +35,27 @@ turn a b left sum ha hb pos is =
     ∙ ap₂ (λ (u v : ℕ). add 2 (u * 2) v) (is ∙ ap (λ (v : ℕ). mul 2 v b) half) (sym (bit_scale (y % 2) b (omega arith)))
     ∙ sym (Ring.mul_step 2 (le_refl 2) y b))
 
-few : (c : goal.After-degree_of-left) → c.degree_of-left.result < 32
-few c = rw c.degree_of-left.ensures (degree_lt 2 (le_refl 2) 32 c.ranges.a.fits (lit< tt))
+few : (c : goal.After-degree_of-place) → c.degree_of-place.result < 32
+few c = rw c.degree_of-place.ensures (degree_lt 2 (le_refl 2) 32 c.ranges.a.fits (lit< tt))
 
-pub overflow_add-left : goal.overflow_add-left
-overflow_add-left c = omega (arith, few c)
+pub overflow_step-place : goal.overflow_step-place
+overflow_step-place c = omega (arith, few c)
 
-pub loop-left-init : goal.loop-left-init
-loop-left-init c = (omega (arith, few c), none c.args.a c.args.b c.degree_of-left.result c.degree_of-left.ensures)
-
-pub overflow_sub-left : goal.overflow_sub-left
-overflow_sub-left c = c.loop-left-test.true
+pub loop-place-init : goal.loop-place-init
+loop-place-init c = none c.args.a c.args.b c.degree_of-place.result c.degree_of-place.ensures
 
 pub overflow_shr-a : goal.overflow_shr-a
-overflow_shr-a c = omega arith
+overflow_shr-a c =
+    let d : c.degree_of-place.result < 32 = rw c.degree_of-place.ensures (degree_lt 2 (le_refl 2) 32 c.ranges.a.fits (lit< tt)) in
+    omega arith
 
-pub loop-left-smaller : goal.loop-left-smaller
-loop-left-smaller c = omega arith
-
-pub loop-left-preserved : goal.loop-left-preserved
-loop-left-preserved c =
-    let l = c.loop-left in (
-      omega arith,
-      rw c.scaled.ensures
-          (turn c.args.a c.args.b l.left l.sum c.ranges.a.fits c.ranges.b.fits
-          c.loop-left-test.true l.invariant.1),
-    )
+pub loop-place-preserved : goal.loop-place-preserved
+loop-place-preserved c =
+    let l = c.loop-place in
+    rw c.scaled.ensures
+    (turn c.args.a c.args.b l.place l.sum c.ranges.a.fits c.ranges.b.fits c.loop-place-test.true l.invariant)
 
 pub returns : goal.returns
 returns c =
-    let e : c.loop-left.left ≡ 0 = omega arith in
-    c.loop-left.invariant.1 ∙ rw (e, div-one c.args.a)
+    let e : c.loop-place.place ≡ 0 = omega arith in
+    c.loop-place.invariant ∙ rw (e, div-one c.args.a)

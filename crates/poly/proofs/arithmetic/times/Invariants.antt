@@ -1,11 +1,8 @@
--- `times` meets its contract. The invariant: the sum is the product of b and the bits of a that were read, a / 2^left.
+-- `times` meets its contract. The invariant: the sum is the product of b and the bits of a that were read, a / 2^place.
 use mathlib.Core.Path.{◌≡◌}
-use Prim.Native.Nat.{◌/◌, ◌^◌, ◌≤◌}
+use Prim.Native.Nat.{◌/◌, ◌^◌}
 use Rattle.poly.specs.Code.{mul}
 use Rattle.poly.proofs.arithmetic.times.Given as goal
 
-abbrev pub invariant-loop-left : goal.invariant-loop-left
-invariant-loop-left l = (l.left ≤ 32) × (l.sum ≡ mul 2 (l.a / 2 ^ l.left) l.b)
-
-abbrev pub decreases-loop-left : goal.decreases-loop-left
-decreases-loop-left l = l.left
+abbrev pub invariant-loop-place : goal.invariant-loop-place
+invariant-loop-place l = l.sum ≡ mul 2 (l.a / 2 ^ l.place) l.b
