@@ -4,5 +4,5 @@
 mod reading;
 mod writing;
 
-pub use reading::{ReadNumber, read_number};
+pub use reading::read_number;
 pub use writing::{put_number, width};

@@ -6,29 +6,22 @@ ghost use Rattle.leb128.specs.Inner.{parse_more};
 
 use reply::Refusal;
 
-// A number of the file with the position behind it, or what it is refused for.
-#[derive(Clone, Copy)]
-pub enum ReadNumber {
-    Value(u64, usize),
-    Refused(Refusal),
-}
-
 fn wide(byte: u8) -> u64
     ensures { result ≡ byte }
 {
     byte as u64
 }
 
-// The number at a position of the file.
-pub fn read_number(file: &[u8], at: usize) -> ReadNumber
+// The number at a position of the file, with the position behind it.
+pub fn read_number(file: &[u8], at: usize) -> Result<(u64, usize), Refusal>
     ensures { Reads number file.now at result }
 {
     if file.len() <= at {
-        return ReadNumber::Refused(Refusal::FileEnds);
+        return Err(Refusal::FileEnds);
     }
     let byte = wide(file[at]);
     if byte < 128 {
-        return ReadNumber::Value(byte, at + 1);
+        return Ok((byte, at + 1));
     }
     read_more(file, at + 1, byte % 128)
 }
@@ -46,7 +39,7 @@ fn ninth_end(file: &[u8], at: usize) -> usize
 
 // The number from behind its first byte on, which has the high bit set and the group `low`. The tenth byte stands apart: of its group only
 // the lowest bit fits in 64 bits, and a last byte 0 is needless, so that the byte must be 1.
-fn read_more(file: &[u8], at: usize, low: u64) -> ReadNumber
+fn read_more(file: &[u8], at: usize, low: u64) -> Result<(u64, usize), Refusal>
     requires { (low < 128) × (at ≤ length file.now) }
     ensures { Reads (parse_more low) file.now at result }
 {
@@ -59,19 +52,19 @@ fn read_more(file: &[u8], at: usize, low: u64) -> ReadNumber
         next += 1;
         if byte < 128 {
             if byte == 0 {
-                return ReadNumber::Refused(Refusal::NumberForm);
+                return Err(Refusal::NumberForm);
             }
-            return ReadNumber::Value(value + unit * byte, next);
+            return Ok((value + unit * byte, next));
         }
         value += unit * (byte % 128);
         unit *= 128;
     }
     if file.len() <= next {
-        return ReadNumber::Refused(Refusal::FileEnds);
+        return Err(Refusal::FileEnds);
     }
     let last = wide(file[next]);
     if last != 1 {
-        return ReadNumber::Refused(Refusal::NumberForm);
+        return Err(Refusal::NumberForm);
     }
-    ReadNumber::Value(value + unit, next + 1)
+    Ok((value + unit, next + 1))
 }
