@@ -1,15 +1,14 @@
 -- The replies of this crate's calls.
-use Rattle.std.specs.Prelude.{ℕ, List, [], ◌∷◌, ◌++◌, ltb, length, drop}
-use Rattle.reply.specs.Numbers.{number_of}
-use Rattle.reply.specs.Reply.{Reply, served, refused, unless, ◌gives◌, after}
+use Rattle.std.specs.Prelude.{ℕ, List, Result, [], ◌∷◌, ◌++◌, ltb, length, drop}
+use Rattle.reply.specs.Reply.{Reply, served, unless, ◌gives◌, after}
+use Rattle.reply.specs.Answers.{answer_reply}
+use Rattle.reply.specs.declared.Refusal.{Refusal}
 use Rattle.poly.specs.Causes.{degree_cause, code_causes, common_factor}
 use Rattle.euclid.specs.Chain.{chain}
-use Rattle.euclid.specs.declared.Chained.{Chained}
-use Rattle.euclid.specs.declared.Chained.TheVariants.{Quotients, Refused}
+use Rattle.euclid.specs.declared.Chain.{Chain}
 
-abbrev pub chained_reply : Chained → Reply
-chained_reply (Quotients count divisor) = served (count ∷ divisor ∷ [])
-chained_reply (Refused refusal) = refused (number_of refusal)
+abbrev pub chained_reply : Result Chain Refusal → Reply
+chained_reply = answer_reply (λ written. written.count ∷ written.divisor ∷ [])
 
 -- The count of quotients and the greatest common divisor; room is the length of the lent slice.
 abbrev pub chain_reply : ℕ → ℕ → ℕ → ℕ → Reply

@@ -1,46 +1,43 @@
 // Euclid's algorithm on codes: the chain of quotients and the greatest common divisor.
 #![tactic(auto)]
 
-ghost use Rattle.std.specs.Prelude.{◌≡◌, [], ◌∷◌, ◌≤◌, length};
+ghost use Rattle.std.specs.Prelude.{◌≡◌, ◌≤◌, length};
 ghost use Rattle.std.proofs.lemmas.List.Edits.{sets};
-ghost use Rattle.reply.specs.Reply.{served};
 ghost use Rattle.poly.specs.Coprime.{gcd};
 ghost use Rattle.poly.specs.Replies.{checked_reply};
 ghost use Rattle.euclid.specs.Chain.{chain};
 ghost use Rattle.euclid.specs.Replies.{chained_reply, chain_reply, chain_content, check_coprime_reply};
 
-use poly::{Checked, Degree};
+use poly::Degree;
 use reply::Refusal;
 
-// How many quotients were written, and the greatest common divisor; or why there is none.
-#[derive(Clone, Copy)]
-pub enum Chained {
-    Quotients { count: usize, divisor: u32 },
-    Refused(Refusal),
+// How many quotients were written, and the greatest common divisor.
+#[derive(Clone, Copy, Debug, PartialEq, Eq)]
+pub struct Chain {
+    pub count: usize,
+    pub divisor: u32,
 }
 
 // Writes the quotients of Euclid's algorithm on f and g, both of degree n and odd, to the front of out.
-pub fn quotients(n: u32, f: u32, g: u32, out: &mut [u32]) -> Chained
+pub fn quotients(n: u32, f: u32, g: u32, out: &mut [u32]) -> Result<Chain, Refusal>
     ensures reply { chained_reply result ≡ chain_reply n f g (length out.old) }
     ensures content { out.new ≡ chain_content n f g out.old }
 {
     if (Degree { n }).outside() {
-        return Chained::Refused(Refusal::DegreeRange);
+        return Err(Refusal::DegreeRange);
     }
-    let checked = poly::check_pair(n, f, g);
-    if let Checked::Refused(refusal) = checked {
-        return Chained::Refused(refusal);
-    }
+    poly::check_pair(n, f, g)?;
     if out.len() < 32 {
-        return Chained::Refused(Refusal::SliceLength);
+        return Err(Refusal::SliceLength);
     }
-    divisions(f, g, out)
+    Ok(divisions(f, g, out))
 }
 
 // Writes the quotients of f and g to the front of out, each as it is found; it refuses nothing. The divisor falls with each division.
-fn divisions(f: u32, g: u32, out: &mut [u32]) -> Chained
+fn divisions(f: u32, g: u32, out: &mut [u32]) -> Chain
     requires { length (chain 2 f g).quotients ≤ length out.old }
-    ensures reply { chained_reply result ≡ served (length (chain 2 f g).quotients ∷ (chain 2 f g).divisor ∷ []) }
+    ensures counted { result.count ≡ length (chain 2 f g).quotients }
+    ensures divisor { result.divisor ≡ (chain 2 f g).divisor }
     ensures written { out.new ≡ sets out.old 0 (chain 2 f g).quotients }
 {
     let mut dividend = f;
@@ -54,7 +51,7 @@ fn divisions(f: u32, g: u32, out: &mut [u32]) -> Chained
         divisor = d.remainder;
     }
     // By now the last divisor is the dividend.
-    Chained::Quotients {
+    Chain {
         count,
         divisor: dividend,
     }
@@ -75,15 +72,12 @@ pub fn gcd(f: u32, g: u32) -> u32
 }
 
 // Whether two codes may stand at degree n as a coprime pair. The degree itself is not judged here.
-pub fn check_coprime(n: u32, f: u32, g: u32) -> Checked
+pub fn check_coprime(n: u32, f: u32, g: u32) -> Result<(), Refusal>
     ensures { checked_reply result ≡ check_coprime_reply n f g }
 {
-    let codes = poly::check_pair(n, f, g);
-    if let Checked::Refused(refusal) = codes {
-        return Checked::Refused(refusal);
-    }
+    poly::check_pair(n, f, g)?;
     if gcd(f, g) != 1 {
-        return Checked::Refused(Refusal::CommonFactor);
+        return Err(Refusal::CommonFactor);
     }
-    Checked::Passed
+    Ok(())
 }

@@ -1,12 +1,11 @@
-use mathlib.Core.List.{List, [], ◌∷◌}
-use mathlib.Core.Path.{refl, sym, ap, ap₂, ◌∙◌}
+use mathlib.Core.List.{List}
+use mathlib.Core.Path.{refl, sym, ap, ◌∙◌}
 use Prim.Native.Nat.{ℕ, ◌+◌, ◌<◌}
 use native.Mathlib.Nat.{zero-add, add-zero}
 use native.Mathlib.Numerals.{add-one}
 use native.Mathlib.Omega.{arith}
 use borrow.Author.Rules.{rules}
 use lib.ListN.{length, set, length-set}
-use Rattle.reply.specs.Reply.{served}
 use Rattle.euclid.specs.Chain.{Chain, chain}
 use Rattle.euclid.proofs.Chains.{link, chain_zero}
 use Rattle.euclid.proofs.Steps.{divided_chain, divided_less}
@@ -61,6 +60,7 @@ returns c =
     let l = c.loop-divisor in
     let s = rw (ap (chain 2 l.dividend) c.loop-divisor-test.false ∙ chain_zero 2 l.dividend) at l.invariant in
     record {
-      reply = ap₂ (λ (u v : ℕ). served (u ∷ v ∷ [])) (sym (add-zero l.count) ∙ s.counted) s.divisor;
+      counted = sym (add-zero l.count) ∙ s.counted;
+      divisor = s.divisor;
       written = s.written;
     }

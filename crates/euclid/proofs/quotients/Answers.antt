@@ -1,19 +1,20 @@
 -- `quotients` meets its contract: the causes in their order, and then the divisions, for whose quotients 32 places are enough.
 use mathlib.Core.Bool.{false}
 use mathlib.Core.List.{List, [], ◌∷◌, ◌++◌}
-use mathlib.Core.Path.{◌≡◌, sym, ap, ◌∙◌}
+use mathlib.Core.Path.{◌≡◌, sym, ap, ap₂, ◌∙◌}
 use Prim.Native.Nat.{ℕ, ◌^◌, ◌≤◌, ◌<◌}
 use native.Mathlib.Nat.{le_refl, zero-add}
 use native.Mathlib.Omega.{arith}
 use borrow.Author.Rules.{rules}
 use borrow.Author.Tests.{lt-ltb, le-ltb}
+use Rattle.std.proofs.lemmas.Result.{err_from_is_err_and}
 use lib.ListN.{length, drop}
 use lib.Seq.{sets, sets-eq}
 use Rattle.reply.specs.Reply.{Reply, served, refused, after}
 use Rattle.reply.proofs.Order.{passed, failed, kept}
 use Rattle.poly.specs.Limits.{outside}
 use Rattle.poly.specs.Causes.{code_causes}
-use Rattle.poly.specs.Replies.{checked_reply, check_pair_reply}
+use Rattle.poly.specs.Replies.{check_pair_reply}
 use Rattle.poly.proofs.Primes.{inverses_2}
 use Rattle.euclid.specs.Chain.{chain}
 use Rattle.euclid.specs.Replies.{chain_reply, chain_content}
@@ -55,18 +56,18 @@ returns-then-outside c =
     let r = refuses a.n a.f a.g a.out.now {k = 1} (rw (sym c.outside.ensures ∙ c.if-outside.true)) in
     record { reply = r.0; content = r.1 }
 
-pub returns-in-Refused : goal.returns-in-Refused
-returns-in-Refused c =
+pub returns-in_err-check_pair : goal.returns-in_err-check_pair
+returns-in_err-check_pair c =
     let a = c.args in
-    let r = bad-code a.n a.f a.g a.out.now (sym c.outside.ensures ∙ c.if-outside.false)
-    (sym (ap checked_reply c.in-Refused.is) ∙ c.check_pair-checked.ensures) in
-    record { reply = r.0; content = r.1 }
+    let p = err_from_is_err_and c.from_residual.result c.from_residual.ensures.1 in
+    let r = bad-code a.n a.f a.g a.out.now (sym c.outside.ensures ∙ c.if-outside.false) c.in_err-check_pair.ensures in
+    record { reply = rw (p.1, p.2) r.0; content = r.1 }
 
 pub returns-then-out-lt32 : goal.returns-then-out-lt32
 returns-then-out-lt32 c =
     let a = c.args in
     let r = short a.n a.f a.g a.out.now (sym c.outside.ensures ∙ c.if-outside.false)
-    (sym (ap checked_reply c.in_default.is) ∙ c.check_pair-checked.ensures) (omega arith) in
+    c.in_ok-check_pair.ensures (omega arith) in
     record { reply = r.0; content = r.1 }
 
 pub divisions-requires : goal.divisions-requires
@@ -80,5 +81,5 @@ returns c =
     let d = c.divisions.ensures in
     let r = done a.n a.f a.g a.out.now
     (sym c.outside.ensures ∙ c.if-outside.false)
-    (sym (ap checked_reply c.in_default.is) ∙ c.check_pair-checked.ensures) c.if-out-lt32.false c.ranges.g.fits in
-    record { reply = d.reply ∙ r.0; content = d.written ∙ r.1 }
+    c.in_ok-check_pair.ensures c.if-out-lt32.false c.ranges.g.fits in
+    record { reply = ap₂ (λ (u v : ℕ). served (u ∷ v ∷ [])) d.counted d.divisor ∙ r.0; content = d.written ∙ r.1 }
