@@ -10,28 +10,22 @@ ghost use Rattle.codes.specs.Codes.{coprimes_of};
 ghost use Rattle.codes.specs.Inner.{InTable, coprime_reply};
 ghost use Rattle.codes.specs.Replies.{check_three_reply};
 
-use poly::{Checked, Degree};
+use poly::Degree;
 use reply::Refusal;
 
 // Whether three codes may stand at degree n, 2 to 6, as pairwise coprime ones.
-pub fn check_three(n: u32, f: u32, g: u32, h: u32) -> Checked
+pub fn check_three(n: u32, f: u32, g: u32, h: u32) -> Result<(), Refusal>
     ensures { checked_reply result ≡ check_three_reply n f g h }
 {
     if (Degree { n }).outside_sheets() {
-        return Checked::Refused(Refusal::SheetDegree);
+        return Err(Refusal::SheetDegree);
     }
-    let pair = poly::check_pair(n, f, g);
-    if let Checked::Refused(refusal) = pair {
-        return Checked::Refused(refusal);
+    poly::check_pair(n, f, g)?;
+    poly::check(n, h)?;
+    if !pairwise_coprime(n, f, g, h) {
+        return Err(Refusal::CommonFactor);
     }
-    let third = poly::check(n, h);
-    if let Checked::Refused(refusal) = third {
-        return Checked::Refused(refusal);
-    }
-    if pairwise_coprime(n, f, g, h) {
-        return Checked::Passed;
-    }
-    Checked::Refused(Refusal::CommonFactor)
+    Ok(())
 }
 
 // Whether three codes are pairwise coprime.
@@ -39,13 +33,7 @@ fn pairwise_coprime(n: u32, f: u32, g: u32, h: u32) -> bool
     requires { InTable n f × InTable n g × InTable n h }
     ensures { coprime_reply result ≡ unless (common_factors (f ∷ g ∷ h ∷ [])) (served []) }
 {
-    if !coprime(n, f, g) {
-        return false;
-    }
-    if !coprime(n, f, h) {
-        return false;
-    }
-    coprime(n, g, h)
+    coprime(n, f, g) && coprime(n, f, h) && coprime(n, g, h)
 }
 
 // Whether two codes are coprime: a bit of the table, which spares Euclid's algorithm.

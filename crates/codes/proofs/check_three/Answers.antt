@@ -3,6 +3,7 @@
 use mathlib.Core.Bool.{false}
 use mathlib.Core.List.{List, [], ◌∷◌, ◌++◌}
 use mathlib.Core.Path.{◌≡◌, sym, ap, ◌∙◌}
+use Rattle.std.proofs.lemmas.Result.{err_from_is_err_and}
 use Prim.Native.Nat.{ℕ, ◌<◌}
 use native.Mathlib.Omega.{arith}
 use lib.ListN.{get_or}
@@ -10,7 +11,7 @@ use Rattle.reply.specs.Reply.{Cause, served, refused, unless}
 use Rattle.reply.proofs.Order.{passed, failed, none_applies}
 use Rattle.poly.specs.Limits.{outside}
 use Rattle.poly.specs.Causes.{code_causes, own_causes, common_factors}
-use Rattle.poly.specs.Replies.{checked_reply, check_reply, check_pair_reply}
+use Rattle.poly.specs.Replies.{check_reply, check_pair_reply}
 use Rattle.poly.proofs.Ranges.{within}
 use Rattle.poly.proofs.Several.{code_passed}
 use Rattle.codes.specs.Inner.{InTable, coprime_reply}
@@ -54,42 +55,36 @@ module _ (n f g h : ℕ) (inside : outside 2 6 n ≡ false) where
 pub returns-then-outside_sheets : goal.returns-then-outside_sheets
 returns-then-outside_sheets c = rw (sym c.outside_sheets.ensures ∙ c.if-outside_sheets.true)
 
-pub returns-in-Refused : goal.returns-in-Refused
-returns-in-Refused c =
+pub returns-in_err-check_pair : goal.returns-in_err-check_pair
+returns-in_err-check_pair c =
     let a = c.args in
-    pair_failed a.n a.f a.g a.h (sym c.outside_sheets.ensures ∙ c.if-outside_sheets.false)
-    (sym (ap checked_reply c.in-Refused.is) ∙ c.check_pair-pair.ensures)
+    let p = err_from_is_err_and c.from_residual.result c.from_residual.ensures.1 in
+    rw (p.1, p.2) (pair_failed a.n a.f a.g a.h (sym c.outside_sheets.ensures ∙ c.if-outside_sheets.false) c.in_err-check_pair.ensures)
 
-pub returns-in-Refused-third : goal.returns-in-Refused-third
-returns-in-Refused-third c =
+pub returns-in_err-check : goal.returns-in_err-check
+returns-in_err-check c =
     let a = c.args in
-    third_failed a.n a.f a.g a.h (sym c.outside_sheets.ensures ∙ c.if-outside_sheets.false)
-    (sym (ap checked_reply c.in_default.is) ∙ c.check_pair-pair.ensures)
-    (sym (ap checked_reply c.in-Refused-third.is) ∙ c.check-third.ensures)
+    let inside = sym c.outside_sheets.ensures ∙ c.if-outside_sheets.false in
+    let p = err_from_is_err_and c.from_residual-in_err-check.result c.from_residual-in_err-check.ensures.1 in
+    rw (p.1, p.2) (third_failed a.n a.f a.g a.h inside c.in_ok-check_pair.ensures c.in_err-check.ensures)
 
 pub pairwise_coprime-requires : goal.pairwise_coprime-requires
 pairwise_coprime-requires c =
     let a = c.args in
-    let stands =
-    in_table a.n a.f a.g a.h (sym c.outside_sheets.ensures ∙ c.if-outside_sheets.false)
-    (sym (ap checked_reply c.in_default.is) ∙ c.check_pair-pair.ensures)
-    (sym (ap checked_reply c.in_default-third.is) ∙ c.check-third.ensures) in
+    let inside = sym c.outside_sheets.ensures ∙ c.if-outside_sheets.false in
+    let stands = in_table a.n a.f a.g a.h inside c.in_ok-check_pair.ensures c.in_ok-check.ensures in
     (stands 0 (omega arith), stands 1 (omega arith), stands 2 (omega arith))
 
-pub returns-then-pairwise_coprime : goal.returns-then-pairwise_coprime
-returns-then-pairwise_coprime c =
+pub returns-then-not-pairwise_coprime : goal.returns-then-not-pairwise_coprime
+returns-then-not-pairwise_coprime c =
     let a = c.args in
-    let told =
-    decides a.n a.f a.g a.h (sym c.outside_sheets.ensures ∙ c.if-outside_sheets.false)
-    (sym (ap checked_reply c.in_default.is) ∙ c.check_pair-pair.ensures)
-    (sym (ap checked_reply c.in_default-third.is) ∙ c.check-third.ensures) in
-    sym (told ∙ sym c.pairwise_coprime.ensures ∙ ap coprime_reply c.if-pairwise_coprime.true)
+    let inside = sym c.outside_sheets.ensures ∙ c.if-outside_sheets.false in
+    let told = decides a.n a.f a.g a.h inside c.in_ok-check_pair.ensures c.in_ok-check.ensures in
+    sym (told ∙ sym c.pairwise_coprime.ensures ∙ ap coprime_reply c.if-not-pairwise_coprime.true)
 
 pub returns : goal.returns
 returns c =
     let a = c.args in
-    let told =
-    decides a.n a.f a.g a.h (sym c.outside_sheets.ensures ∙ c.if-outside_sheets.false)
-    (sym (ap checked_reply c.in_default.is) ∙ c.check_pair-pair.ensures)
-    (sym (ap checked_reply c.in_default-third.is) ∙ c.check-third.ensures) in
-    sym (told ∙ sym c.pairwise_coprime.ensures ∙ ap coprime_reply c.if-pairwise_coprime.false)
+    let inside = sym c.outside_sheets.ensures ∙ c.if-outside_sheets.false in
+    let told = decides a.n a.f a.g a.h inside c.in_ok-check_pair.ensures c.in_ok-check.ensures in
+    sym (told ∙ sym c.pairwise_coprime.ensures ∙ ap coprime_reply c.if-not-pairwise_coprime.false)
