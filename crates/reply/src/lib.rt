@@ -1,4 +1,4 @@
-// The refusals of documents 01 and 02 by name, and their numbers. New ones stand at the end.
+// The refusals of documents 01 and 02, each with its number there. New ones stand at the end.
 #![tactic(auto)]
 
 ghost use Rattle.std.specs.Prelude.{◌≡◌};
@@ -7,37 +7,37 @@ ghost use Rattle.reply.specs.Numbers.{number_of};
 #[derive(Clone, Copy, Debug, PartialEq, Eq)]
 pub enum Refusal {
     // Caused by the console.
-    DegreeRange,
-    PositionRange,
-    WalkRecord,
-    SliceLength,
-    SiteRange,
+    DegreeRange = 1,
+    PositionRange = 2,
+    WalkRecord = 3,
+    SliceLength = 4,
+    SiteRange = 5,
     // Caused by who chooses polynomials.
-    CodeDegree,
-    ConstantTerm,
-    CommonFactor,
+    CodeDegree = 6,
+    ConstantTerm = 7,
+    CommonFactor = 8,
     // Caused by who writes the file.
-    FileEnds,
-    NumberForm,
-    Version,
-    SheetDegree,
-    LevelRange,
-    LevelRepeated,
-    NameLength,
-    NameByte,
-    TrailingBytes,
+    FileEnds = 9,
+    NumberForm = 10,
+    Version = 11,
+    SheetDegree = 12,
+    LevelRange = 13,
+    LevelRepeated = 14,
+    NameLength = 15,
+    NameByte = 16,
+    TrailingBytes = 17,
     // Caused by the console.
-    MarkRange,
-    MarkEmpty,
-    BonderRange,
-    BonderFull,
+    MarkRange = 18,
+    MarkEmpty = 19,
+    BonderRange = 20,
+    BonderFull = 21,
     // Caused by who makes a sheet to check.
-    OrderRange,
-    SymbolRange,
-    NotGraecoLatin,
+    OrderRange = 26,
+    SymbolRange = 27,
+    NotGraecoLatin = 28,
     // Caused by who stores a saved walk.
-    SavedKind,
-    CountRange,
+    SavedKind = 22,
+    CountRange = 23,
 }
 
 impl Refusal {
@@ -45,33 +45,6 @@ impl Refusal {
     pub fn number(self) -> u32
         ensures { result ≡ number_of self }
     {
-        match self {
-            Refusal::DegreeRange => 1,
-            Refusal::PositionRange => 2,
-            Refusal::WalkRecord => 3,
-            Refusal::SliceLength => 4,
-            Refusal::SiteRange => 5,
-            Refusal::CodeDegree => 6,
-            Refusal::ConstantTerm => 7,
-            Refusal::CommonFactor => 8,
-            Refusal::FileEnds => 9,
-            Refusal::NumberForm => 10,
-            Refusal::Version => 11,
-            Refusal::SheetDegree => 12,
-            Refusal::LevelRange => 13,
-            Refusal::LevelRepeated => 14,
-            Refusal::NameLength => 15,
-            Refusal::NameByte => 16,
-            Refusal::TrailingBytes => 17,
-            Refusal::MarkRange => 18,
-            Refusal::MarkEmpty => 19,
-            Refusal::BonderRange => 20,
-            Refusal::BonderFull => 21,
-            Refusal::OrderRange => 26,
-            Refusal::SymbolRange => 27,
-            Refusal::NotGraecoLatin => 28,
-            Refusal::SavedKind => 22,
-            Refusal::CountRange => 23,
-        }
+        self as u32
     }
 }
