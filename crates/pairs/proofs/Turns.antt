@@ -11,13 +11,11 @@ use lib.ListN.{length, get_or}
 use lib.Bits.{bit_xor, xor_lt}
 use lib.Pow.{pow_mono, field, mod-mod-pow}
 use borrow.Author.Tests.{lt-ltb, le-ltb}
-use Rattle.reply.specs.Reply.{served}
 use Rattle.poly.proofs.Binary.{add_xor, bit_scale}
 use Rattle.euclid.specs.Chain.{Pair}
 use Rattle.pairs.specs.Words.{s10, words, as_number}
 use Rattle.pairs.specs.Sequences.{bit, compositions, block}
 use Rattle.pairs.specs.Pairs.{build}
-use Rattle.pairs.specs.Replies.{pair_reply}
 use Rattle.pairs.proofs.Valid.{constant}
 use Rattle.pairs.proofs.Words.{count, word_at, word_at_known, listed_words}
 use Rattle.pairs.proofs.Letters.{letters, letters_number}
@@ -203,9 +201,8 @@ module _ (n k place : ℕ) (two : 2 ≤ k) (le : k ≤ n) (fits : place < length
 
   -- The last quotient 1.
   pub answer : (last r : ℕ) → pair last r ≡ walk_in n k place
-      → served (bit_xor last r ∷ last ∷ []) ≡ pair_reply (build (get_or (block n k) place []))
+      → pair (bit_xor last r) last ≡ build (get_or (block n k) place [])
   unfolding pair_in shift
   answer last r is =
-      ap (λ v. served (v ∷ last ∷ [])) (sym (add_xor last r)) ∙ ap (λ t. pair_reply (shift t.f t)) is
-      ∙ sym (ap (λ qs. pair_reply (build qs)) ((listed_block n k).stands place in_block)
-      ∙ ap pair_reply (build_walk n k place (omega arith) in_block))
+      ap (λ v. pair v last) (sym (add_xor last r)) ∙ ap (λ t. shift t.f t) is
+      ∙ sym (ap build ((listed_block n k).stands place in_block) ∙ build_walk n k place (omega arith) in_block)

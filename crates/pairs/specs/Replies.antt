@@ -1,17 +1,20 @@
 -- The reply of the pair call.
-use Rattle.std.specs.Prelude.{ℕ, [], ◌∷◌, leb}
-use Rattle.reply.specs.Numbers.{number_of}
-use Rattle.reply.specs.Reply.{Reply, served, refused, unless, ◌gives◌}
+use Rattle.std.specs.Prelude.{ℕ, Result, [], ◌∷◌, leb}
+use Rattle.reply.specs.Reply.{Reply, served, unless, ◌gives◌}
+use Rattle.reply.specs.Answers.{answer_reply}
+use Rattle.reply.specs.declared.Refusal.{Refusal}
 use Rattle.poly.specs.Limits.{list_length}
 use Rattle.poly.specs.Causes.{degree_cause}
 use Rattle.euclid.specs.Chain.{Pair}
 use Rattle.pairs.specs.Pairs.{entry}
-use Rattle.pairs.specs.declared.pair.Found.{Found}
-use Rattle.pairs.specs.declared.pair.Found.TheVariants.{Codes, Refused}
+use Rattle.pairs.specs.declared.pair.Pair.{Pair as Codes}
 
-abbrev pub found_reply : Found → Reply
-found_reply (Codes f g) = served (f ∷ g ∷ [])
-found_reply (Refused refusal) = refused (number_of refusal)
+-- Two codes of the program as the paper's pair.
+abbrev pub pair_of : Codes → Pair
+pair_of codes = record { f = codes.f; g = codes.g }
+
+abbrev pub found_reply : Result Codes Refusal → Reply
+found_reply = answer_reply (λ codes. codes.f ∷ codes.g ∷ [])
 
 -- Both codes.
 abbrev pub pair_reply : Pair → Reply

@@ -7,5 +7,5 @@ mod readers;
 mod table;
 
 pub use division::share;
-pub use pair::{Found, pair_at};
+pub use pair::{Pair, pair_at};
 pub use table::word_count;

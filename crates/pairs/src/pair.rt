@@ -3,43 +3,38 @@ ghost use Rattle.std.specs.Prelude.{[], ◌≡◌, ◌≤◌, ◌<◌, length, g
 ghost use Rattle.pairs.specs.Sequences.{block, compositions};
 ghost use Rattle.pairs.specs.Words.{words as words_of};
 ghost use Rattle.pairs.specs.Pairs.{start, build, pairs};
-ghost use Rattle.pairs.specs.Replies.{found_reply, pair_reply, pair_at_reply};
+ghost use Rattle.pairs.specs.Replies.{pair_of, found_reply, pair_at_reply};
 
 use crate::division::share;
 use crate::readers::from10;
 use crate::table::word_count;
-use poly::{Count, Degree};
+use poly::Degree;
 use reply::Refusal;
 
-// The two codes at a position, or why there are none.
-#[derive(Clone, Copy)]
-pub enum Found {
-    Codes(u32, u32),
-    Refused(Refusal),
+// Two codes, f before g.
+#[derive(Clone, Copy, Debug, PartialEq, Eq)]
+pub struct Pair {
+    pub f: u32,
+    pub g: u32,
 }
 
 // The pair of degree n at a position of the list.
-pub fn pair_at(n: u32, position: u64) -> Found
+pub fn pair_at(n: u32, position: u64) -> Result<Pair, Refusal>
     ensures { found_reply result ≡ pair_at_reply n position }
 {
-    let degree = Degree { n };
-    match degree.list_length() {
-        Count::Refused(refusal) => Found::Refused(refusal),
-        Count::Is(length) => {
-            if length <= position {
-                return Found::Refused(Refusal::PositionRange);
-            }
-            seek(n, position)
-        }
+    let length = (Degree { n }).list_length()?;
+    if length <= position {
+        return Err(Refusal::PositionRange);
     }
+    Ok(seek(n, position))
 }
 
 // The same for a position of the list. The number k of quotients is found by subtracting the sizes of the blocks before it; `count` is the
 // number of compositions of n into k parts and `words` that of the words of k letters, each made from the one before.
-fn seek(n: u32, position: u64) -> Found
+fn seek(n: u32, position: u64) -> Pair
     requires n_bound { n ≤ 31 }
     requires position_in_bounds { position < length (pairs n) }
-    ensures { found_reply result ≡ pair_reply (get_or (pairs n) position start) }
+    ensures { pair_of result ≡ get_or (pairs n) position start }
 {
     let mut k = 2;
     let mut count = n - 1;
@@ -71,13 +66,13 @@ fn block_size(n: u32, k: u32, count: u32, words: u64) -> u64
 // The pair at a place among those of k quotients. One pass over the n - 1 gaps between n ones: a plus in a gap gives the present quotient
 // its next intermediate bit, a comma ends it with its letter. `product` is that quotient, as far as it goes, times r. Of the `left`
 // compositions that agree so far, those with a comma in the gap come first.
-fn pair_in(n: u32, k: u32, count: u32, place: u64) -> Found
+fn pair_in(n: u32, k: u32, count: u32, place: u64) -> Pair
     requires le_k { 2 ≤ k }
     requires k_le_n { k ≤ n }
     requires n_bound { n ≤ 31 }
     requires count_value { count ≡ length (compositions n k) }
     requires place_in_bounds { place < length (block n k) }
-    ensures { found_reply result ≡ pair_reply (build (get_or (block n k) place [])) }
+    ensures { pair_of result ≡ build (get_or (block n k) place []) }
 {
     let words = word_count(k as usize);
     let word = from10(k, place % words, words);
@@ -106,5 +101,8 @@ fn pair_in(n: u32, k: u32, count: u32, place: u64) -> Found
         }
     }
     let last = (product << 1) ^ poly::scaled(r, word) ^ s;
-    Found::Codes(last ^ r, last)
+    Pair {
+        f: last ^ r,
+        g: last,
+    }
 }

@@ -1,15 +1,14 @@
 -- `pair_at` meets its contract: the list's length tells whether the degree is refused, and then whether the position is.
 use mathlib.Core.Bool.{false}
 use mathlib.Core.List.{[], ◌∷◌}
-use mathlib.Core.Path.{◌≡◌, sym, ap, ◌∙◌}
+use mathlib.Core.Path.{◌≡◌, ap, ◌∙◌}
 use Prim.Native.Nat.{ℕ, ◌≤◌, ◌<◌}
 use borrow.Author.Tests.{le-leb, lt-leb}
+use Rattle.std.proofs.lemmas.Result.{err_from_is_err_and}
 use lib.ListN.{length, get_or}
 use Rattle.reply.specs.Reply.{served, refused}
 use Rattle.poly.specs.Limits.{outside, list_length}
-use Rattle.poly.specs.declared.limits.Count.{Count}
-use Rattle.poly.specs.declared.limits.Count.TheVariants.{Is}
-use Rattle.poly.specs.Replies.{count_reply, length_reply}
+use Rattle.poly.specs.Replies.{length_reply}
 use Rattle.poly.proofs.Ranges.{within, length_served, count_refused}
 use Rattle.pairs.specs.Pairs.{start, pairs}
 use Rattle.pairs.specs.Replies.{pair_reply, pair_at_reply}
@@ -39,30 +38,26 @@ module _ (n position : ℕ) where
     unfolding pair_at_reply
     found h = rw (known.0, lt-leb (list_length n) position (rw known.1 at h))
 
-module _ (n : ℕ) {count : Count} {length' : ℕ} where
-  -- the length that the degree answered
-  answered : count ≡ Is length' → count_reply count ≡ length_reply n → served (length' ∷ []) ≡ length_reply n
-  answered is e = sym (ap count_reply is) ∙ e
-
 pub returns-then-length-position : goal.returns-then-length-position
 returns-then-length-position c =
     let a = c.args in
-    bad_position a.n a.position _ (answered a.n c.in-Is.is c.list_length.ensures) c.if-length-position.true
+    bad_position a.n a.position _ c.in_ok-length.ensures c.if-length-position.true
 
 pub seek-requires : goal.seek-requires
 seek-requires c =
     let a = c.args in
     record {
-      n_bound = few a.n a.position _ (answered a.n c.in-Is.is c.list_length.ensures);
-      position_in_bounds = in_list a.n a.position _ (answered a.n c.in-Is.is c.list_length.ensures) c.if-length-position.false;
+      n_bound = few a.n a.position _ c.in_ok-length.ensures;
+      position_in_bounds = in_list a.n a.position _ c.in_ok-length.ensures c.if-length-position.false;
     }
 
-pub returns-in-Refused : goal.returns-in-Refused
-returns-in-Refused c =
+pub returns-in_err-length : goal.returns-in_err-length
+returns-in_err-length c =
     let a = c.args in
-    bad_degree a.n a.position (sym (ap count_reply c.in-Refused.is) ∙ c.list_length.ensures)
+    let p = err_from_is_err_and c.from_residual.result c.from_residual.ensures.1 in
+    rw (p.1, p.2) (bad_degree a.n a.position c.in_err-length.ensures)
 
-pub returns-else-length-position : goal.returns-else-length-position
-returns-else-length-position c =
+pub returns : goal.returns
+returns c =
     let a = c.args in
-    c.seek.ensures ∙ found a.n a.position _ (answered a.n c.in-Is.is c.list_length.ensures) c.if-length-position.false
+    ap pair_reply c.seek.ensures ∙ found a.n a.position _ c.in_ok-length.ensures c.if-length-position.false

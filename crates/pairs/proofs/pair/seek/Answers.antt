@@ -9,7 +9,6 @@ use lib.ListN.{length, get_or}
 use Rattle.loops.proofs.Loops as loops
 use Rattle.pairs.specs.Sequences.{compositions, block}
 use Rattle.pairs.specs.Pairs.{start, build, pairs}
-use Rattle.pairs.specs.Replies.{pair_reply}
 use Rattle.pairs.proofs.Words.{listed_words}
 use Rattle.pairs.proofs.Shares.{next_fits, next_words}
 use Rattle.pairs.proofs.Compositions.{parts, listed_compositions}
@@ -91,12 +90,11 @@ module _ {n position k count kept place : ℕ} (h : Seeking n position k count k
     next e le = rw e (passes le)
 
     ends : position < length (pairs n) → place < s
-        → pair_reply (build (get_or (block n k) place [])) ≡ pair_reply (get_or (pairs n) position start)
+        → build (get_or (block n k) place []) ≡ get_or (pairs n) position start
     ends fits lt =
         let l : place < block_size n k = rw size_is at lt in
         let here : at n k (suc n - k) place ≡ block_at n k place = rw (blocks, lt-ltb place (block_size n k) l) in
-        ap (λ qs. pair_reply (build qs)) ((listed_block n k).stands place l ∙ sym here ∙ h.is)
-        ∙ ap pair_reply (sym (pair_at_is n position start fits))
+        ap build ((listed_block n k).stands place l ∙ sym here ∙ h.is) ∙ sym (pair_at_is n position start fits)
 
 pub overflow_sub-count : goal.overflow_sub-count
 overflow_sub-count c = omega (arith, two c.args.n c.args.position c.requires.position_in_bounds)
