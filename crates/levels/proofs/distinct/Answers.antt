@@ -8,4 +8,4 @@ use Rattle.levels.proofs.distinct.Goals as goal
 pub returns-then-rising : goal.returns-then-rising
 returns-then-rising c =
     let levels = c.args.levels.now in
-    rw (rising_differ [] levels none_before (not-true _ (sym c.rising.ensures ∙ c.if-rising.true)))
+    c.if-rising.true ∙ rw (rising_differ [] levels none_before (not-true _ (sym c.rising.ensures ∙ c.if-rising.true)))

@@ -1,20 +1,16 @@
 use mathlib.Core.Path.{sym, ◌∙◌}
-use Rattle.levels.proofs.Filter.{none_filtered, found_repeated, one_filtered, all_filtered}
+use Rattle.levels.proofs.Filter.{found_repeated, one_filtered}
 use Rattle.levels.proofs.none_twice.Goals as goal
+use Rattle.levels.proofs.none_twice.Goals.{else-seen-slot-via-then-seen-slot+else-among, else-seen-slot-via-else-seen-slot}
 
-pub loop-i-init : goal.loop-i-init
-loop-i-init c = none_filtered c.args.levels.now
-
-pub met-requires : goal.met-requires
-met-requires c = c.loop-i.invariant.free _
-
-pub returns-then-met : goal.returns-then-met
-returns-then-met c =
-    found_repeated c.loop-i.invariant c.loop-i-test.true (sym c.met.ensures ∙ c.if-met.true)
+pub returns-then-among : goal.returns-then-among
+returns-then-among c = found_repeated c.loop-i.invariant c.loop-i-test.true (sym c.among.ensures ∙ c.if-among.true)
 
 pub loop-i-preserved : goal.loop-i-preserved
 loop-i-preserved c =
-    one_filtered c.loop-i.invariant c.loop-i-test.true (sym c.met.ensures ∙ c.if-met.false)
-
-pub returns : goal.returns
-returns c = all_filtered c.loop-i.invariant c.loop-i-test.false
+    let s = c.loop-i.invariant in
+    let there = c.loop-i-test.true in
+    elim c.else-seen-slot.branch [
+      | else-seen-slot-via-then-seen-slot+else-among w ↦ rw c.from-slot.ensures (one_filtered s there (sym w.among.ensures ∙ w.if-among.false))
+      | else-seen-slot-via-else-seen-slot w ↦ rw c.from-slot.ensures (one_filtered s there (s.free _ (rw c.from-slot.ensures at w.if-seen-slot.false)))
+    ]

@@ -1,11 +1,6 @@
 -- `none_twice` meets its contract: no level passed is equal to an earlier one, and the filter has a slot for each of them.
-use Prim.Native.Nat.{◌-◌}
-use lib.ListN.{length}
 use Rattle.levels.proofs.Filter.{Filtering}
 use Rattle.levels.proofs.none_twice.Given as goal
 
 abbrev pub invariant-loop-i : goal.invariant-loop-i
 invariant-loop-i l = Filtering l.levels l.seen l.i
-
-abbrev pub decreases-loop-i : goal.decreases-loop-i
-decreases-loop-i l = length l.levels - l.i
