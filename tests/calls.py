@@ -12,14 +12,18 @@ from pathlib import Path
 
 
 def proved():
-    """What each function of the libraries calls, and those that have a loop: the code that is proved, which a build of a library keeps. A
-    call through a trait gets a name that no function has, so that it is refused where one of the two calls uses it."""
+    """What each function of the libraries calls, and those that have a loop: the code that is proved, which a build of a library keeps, and that
+    of the standard library. What a generic function calls through a trait is put down to the function that hands the impl in: to that
+    function, all the methods of the impl count as called. A call through a pointer or a closure gets a name that no function has, so that it is
+    refused where one of the two calls uses it."""
     calls, loops = {}, set()
-    for file in Path("crates").glob("*/out/rlib/*.rlib/toolchain/mir.json"):
+    kit = Path(subprocess.run(["rt", "doc"], stdout=subprocess.PIPE, check=True, text=True).stdout.strip()).parent
+    for file in [*Path("crates").glob("*/out/rlib/*.rlib/toolchain/mir.json"), kit / "rlibs/core.rlib/toolchain/mir.json"]:
         for name, function in json.loads(file.read_text()):
             if name in calls:
                 sys.exit(f"{name}: defined twice")
-            calls[name], ahead = set(), [function["body"]]
+            calls[name] = {method for impl in function["generics"]["impls"] for method in impl["methods"]}
+            ahead = [function["body"]]
             while ahead:
                 part = ahead.pop()
                 if part == "Loop":
@@ -28,9 +32,12 @@ def proved():
                     ahead += part
                 elif isinstance(part, dict):
                     for kind, inside in part.items():
-                        if "Call" in kind:
-                            is_named = kind == "Call" and list(inside[0]) == ["Fn"]
-                            calls[name].add(inside[0]["Fn"][0] if is_named else f"a function that only a caller of {name} names")
+                        if kind == "Call" and list(inside[0]) == ["Fn"]:
+                            calls[name].add(inside[0]["Fn"][0])
+                        elif kind == "Call" and list(inside[0]) == ["Method"] and list(inside[0]["Method"][0]) == ["Given"]:
+                            pass
+                        elif "Call" in kind:
+                            calls[name].add(f"a function that only a caller of {name} names")
                         elif kind == "Loop":
                             loops.add(name)
                         ahead.append(inside)
