@@ -1,17 +1,14 @@
 -- The reply of the triple call.
-use Rattle.std.specs.Prelude.{ℕ, cond, [], ◌∷◌, ltb, length}
-use Rattle.reply.specs.Numbers.{number_of}
-use Rattle.reply.specs.Reply.{Reply, served, refused, spent, unless}
+use Rattle.std.specs.Prelude.{ℕ, Option, Result, cond, [], ◌∷◌, ltb, length}
+use Rattle.reply.specs.Answers.{optional_reply}
+use Rattle.reply.specs.Reply.{Reply, served, spent, unless}
+use Rattle.reply.specs.declared.Refusal.{Refusal}
 use Rattle.poly.specs.Causes.{sheet_degree_cause}
 use Rattle.triples.specs.Triples.{Triple, triples, triple_at}
-use Rattle.triples.specs.declared.Entry.{Entry}
-use Rattle.triples.specs.declared.Entry.TheVariants.{Codes, Spent, Refused}
 
 -- The answer as the documents speak of it.
-abbrev pub given_reply : Entry → Reply
-given_reply (Codes f g h) = served (f ∷ g ∷ h ∷ [])
-given_reply Spent = spent
-given_reply (Refused refusal) = refused (number_of refusal)
+abbrev pub given_reply : Result (Option Triple) Refusal → Reply
+given_reply = optional_reply (λ triple. triple.f ∷ triple.g ∷ triple.h ∷ [])
 
 -- Served with the three codes.
 abbrev pub triple_reply : Triple → Reply

@@ -2,11 +2,7 @@
 use Rattle.std.specs.Prelude.{ℕ, ◌&&◌, List, map, get_or}
 use Rattle.loops.specs.Loops.{each, filter}
 use Rattle.codes.specs.Codes.{monic_codes, coprime}
-
-pub record Triple : Type 0 where
-  pub f : ℕ
-  pub g : ℕ
-  pub h : ℕ
+pub use Rattle.triples.specs.declared.Triple.{Triple}
 
 -- For coprime codes f and g of degree n, the triples that begin with them: each h that is coprime to both.
 unfoldable pub beginning_with_two : ℕ → ℕ → ℕ → List Triple

@@ -9,46 +9,46 @@ ghost use Rattle.std.specs.Prelude.{◌≡◌, ◌-◌, ◌^◌, ◌≤◌, ◌<
 ghost use Rattle.codes.specs.Sets.{members};
 ghost use Rattle.codes.specs.Codes.{from_half};
 ghost use Rattle.triples.specs.Triples.{none, beginning_with, triples};
-ghost use Rattle.triples.specs.Replies.{given_reply, triple_reply, triple_at_reply};
+ghost use Rattle.triples.specs.Replies.{given_reply, triple_at_reply};
 
 use counts::{BEGINNING, all};
 use poly::Degree;
 use reply::Refusal;
 
-// The three codes at a position; spent behind the list's end; or why there are none.
+// Three codes of one degree.
 #[derive(Clone, Copy)]
-pub enum Entry {
-    Codes(u32, u32, u32),
-    Spent,
-    Refused(Refusal),
+pub struct Triple {
+    pub f: u32,
+    pub g: u32,
+    pub h: u32,
 }
 
-// The triple of degree n at a position of the list.
-pub fn triple_at(n: u32, position: u64) -> Entry
+// The triple of degree n at a position of the list; none behind the list's end.
+pub fn triple_at(n: u32, position: u64) -> Result<Option<Triple>, Refusal>
     ensures { given_reply result ≡ triple_at_reply n position }
 {
     if (Degree { n }).outside_sheets() {
-        return Entry::Refused(Refusal::SheetDegree);
+        return Err(Refusal::SheetDegree);
     }
-    if all(n) as u64 <= position {
-        return Entry::Spent;
+    if u64::from(all(n)) <= position {
+        return Ok(None);
     }
-    seek(n, position as u32)
+    Ok(Some(seek(n, position as u32)))
 }
 
 // The triple at a position below the list's end. f is found by subtracting how many triples begin with each code before it.
-fn seek(n: u32, position: u32) -> Entry
+fn seek(n: u32, position: u32) -> Triple
     requires le_n { 2 ≤ n }
     requires n_bound { n ≤ 6 }
     requires position_in_bounds { position < length (triples n) }
-    ensures { given_reply result ≡ triple_reply (get_or (triples n) position none) }
+    ensures { result ≡ get_or (triples n) position none }
 {
     // Copied once: read where it stands, the table would be laid out anew at each turn.
     let sizes = BEGINNING;
     let mut half = 1 << (n - 1);
     let mut rest = position;
     loop {
-        let size = sizes[half as usize] as u32;
+        let size = u32::from(sizes[half as usize]);
         if rest < size {
             return seek_second(n, half, rest);
         }
@@ -59,28 +59,33 @@ fn seek(n: u32, position: u32) -> Entry
 
 // The triple at a place among those that begin with f = 2·half + 1. g runs through the codes coprime to f, from the least on, and is found
 // by subtracting how many codes are coprime to both.
-fn seek_second(n: u32, half: u32, place: u32) -> Entry
+fn seek_second(n: u32, half: u32, place: u32) -> Triple
     requires le_n { 2 ≤ n }
     requires n_bound { n ≤ 6 }
     requires n_bound_2 { 2 ^ (n - 1) ≤ half }
     requires half_bound { half < 2 ^ n }
     requires place_in_bounds { place < length (beginning_with n (from_half half)) }
-    ensures { given_reply result ≡ triple_reply (get_or (beginning_with n (from_half half)) place none) }
+    ensures { result ≡ get_or (beginning_with n (from_half half)) place none }
 {
     let least = 1 << (n - 1);
     let first = codes::coprimes(half);
     let mut left = first;
     let mut rest = place;
     loop {
-        let second = least + u32::trailing_zeros(left);
-        let both = first & codes::coprimes(second);
-        let size = u32::count_ones(both);
+        let second = least + left.trailing_zeros();
+        let of_second = codes::coprimes(second);
+        let both = first & of_second;
+        let size = both.count_ones();
         if rest < size {
             let third = least + member(both, rest);
-            return Entry::Codes(2 * half + 1, 2 * second + 1, 2 * third + 1);
+            return Triple {
+                f: 2 * half + 1,
+                g: 2 * second + 1,
+                h: 2 * third + 1,
+            };
         }
         rest -= size;
-        left = left & (left - 1);
+        left &= left - 1;
     }
 }
 
@@ -90,10 +95,8 @@ fn member(set: u32, rank: u32) -> u32
     ensures { result ≡ get_or (members set) rank 0 }
 {
     let mut left = set;
-    let mut before = rank;
-    while 0 < before {
-        left = left & (left - 1);
-        before -= 1;
+    for _ in 0..rank {
+        left &= left - 1;
     }
-    u32::trailing_zeros(left)
+    left.trailing_zeros()
 }

@@ -1,4 +1,4 @@
-use Prim.Native.Nat.{ℕ, suc, ◌-◌, ◌<◌}
+use Prim.Native.Nat.{ℕ, suc, ◌-◌, ◌^◌, ◌<◌}
 use native.Mathlib.Nat.{lt_of_le_of_lt}
 use native.Mathlib.Omega.{arith}
 use mathlib.Core.List.{◌∷◌}
@@ -19,10 +19,9 @@ module _ {set rank left before : ℕ} (p : Passing set rank left before) where
   first : members left ≡ count_trailing_zeros 32 left ∷ members (bit_and left (left - 1))
   first = members_first left p.fits some
 
-  next : 0 < before → Passing set rank (bit_and left (left - 1)) (before - 1)
-  next more =
-      let e : before ≡ suc (before - 1) = omega arith in
-      let inside : suc (before - 1) < suc (length (members (bit_and left (left - 1)))) = rw (first, e) at p.inside in
+  next : {after : ℕ} → before ≡ suc after → Passing set rank (bit_and left (left - 1)) after
+  next {after} e =
+      let inside : suc after < suc (length (members (bit_and left (left - 1)))) = rw (first, e) at p.inside in
       record {
         fits = lt_of_le_of_lt (and_le_l left (left - 1)) p.fits;
         inside = omega arith;
@@ -32,14 +31,17 @@ module _ {set rank left before : ℕ} (p : Passing set rank left before) where
   ends : before ≡ 0 → count_trailing_zeros 32 left ≡ get_or (members set) rank 0
   ends e = rw (first, e) at p.is
 
-pub loop-before-init : goal.loop-before-init
-loop-before-init c = record { fits = search rules; inside = c.requires; is = refl }
+begins : {set rank before : ℕ} → set < 2 ^ 32 → rank < length (members set) → before ≡ rank → Passing set rank set before
+begins fits inside e = rw e record { fits = fits; inside = inside; is = refl }
+
+pub loop-init : goal.loop-init
+loop-init c = begins (search rules) c.requires (omega arith)
 
 pub overflow_sub-left : goal.overflow_sub-left
-overflow_sub-left c = some c.loop-before.invariant
+overflow_sub-left c = some c.loop.invariant
 
-pub loop-before-preserved : goal.loop-before-preserved
-loop-before-preserved c = next c.loop-before.invariant c.loop-before-test.true
+pub loop-preserved : goal.loop-preserved
+loop-preserved c = next c.loop.invariant (omega (arith, c.loop-test.true))
 
 pub returns : goal.returns
-returns c = ends c.loop-before.invariant (search rules)
+returns c = ends c.loop.invariant (omega (arith, c.loop-test.false))

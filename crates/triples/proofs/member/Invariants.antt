@@ -1,5 +1,6 @@
--- `member` meets its contract. The invariant: the member with `before` members of `left` before it is the one that is asked for.
-use Prim.Native.Nat.{ℕ, ◌^◌, ◌<◌}
+-- `member` meets its contract. The invariant: of those members of `left` that have as many before them as there are turns to come, the one
+-- is the member that is asked for.
+use Prim.Native.Nat.{ℕ, ◌-◌, ◌^◌, ◌<◌}
 use mathlib.Core.Path.{◌≡◌}
 use lib.ListN.{length, get_or}
 use Rattle.codes.specs.Sets.{members}
@@ -10,8 +11,5 @@ pub record Passing (set rank left before : ℕ) : Type 0 where
   pub inside : before < length (members left)
   pub is : get_or (members left) before 0 ≡ get_or (members set) rank 0
 
-abbrev pub invariant-loop-before : goal.invariant-loop-before
-invariant-loop-before l = Passing l.set l.rank l.left l.before
-
-abbrev pub decreases-loop-before : goal.decreases-loop-before
-decreases-loop-before l = l.before
+abbrev pub invariant-loop : goal.invariant-loop
+invariant-loop l = Passing l.set l.rank l.left (l.rank - l.counter)

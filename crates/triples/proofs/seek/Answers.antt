@@ -1,11 +1,10 @@
 use Prim.Native.Nat.{ℕ, ◌-◌, ◌<◌}
 use native.Mathlib.Numerals.{add-one}
 use native.Mathlib.Omega.{arith}
-use mathlib.Core.Path.{ap, ◌∙◌}
+use mathlib.Core.Path.{◌∙◌}
 use Rattle.poly.proofs.Shifts.{one_shl}
 use Rattle.codes.proofs.Halves.{half_lt}
-use Rattle.triples.specs.Replies.{triple_reply}
-use Rattle.triples.proofs.Totals.{counts, count_at, count_fits}
+use Rattle.triples.proofs.Totals.{counts, count_at}
 use Rattle.triples.proofs.Seeking.{Seeking, begins, code, found, passed}
 use Rattle.triples.proofs.seek.Goals as goal
 
@@ -18,18 +17,11 @@ loop-rest-init c =
 in_table : {n position half rest : ℕ} → Seeking n position half rest → half < 64
 in_table s = half_lt (code s)
 
-pub overflow_cast-size : goal.overflow_cast-size
-overflow_cast-size c = record { fits = omega (arith, in_table c.loop-rest.invariant) }
-
 pub offset_bounds-sizes-half : goal.offset_bounds-sizes-half
 offset_bounds-sizes-half c = record { fits = omega (arith, in_table c.loop-rest.invariant) }
 
 pub bounds-sizes-half : goal.bounds-sizes-half
 bounds-sizes-half c = in_table c.loop-rest.invariant
-
-pub overflow_cast-size-in-loop-rest : goal.overflow_cast-size-in-loop-rest
-unfolding counts
-overflow_cast-size-in-loop-rest c = record { fits = count_fits c.loop-rest.half (in_table c.loop-rest.invariant) }
 
 pub seek_second-requires : goal.seek_second-requires
 unfolding counts
@@ -40,14 +32,14 @@ seek_second-requires c =
       n_bound = s.high;
       n_bound_2 = s.from;
       half_bound = (code s).below;
-      place_in_bounds = rw (count_at (code s)) at c.if-rest-size.true;
+      place_in_bounds = rw (c.from-size.ensures, count_at (code s)) at c.if-rest-size.true;
     }
 
 pub returns-then-rest-size : goal.returns-then-rest-size
 unfolding counts
 returns-then-rest-size c =
     let s = c.loop-rest.invariant in
-    c.seek_second.ensures ∙ ap triple_reply (found s (rw (count_at (code s)) at c.if-rest-size.true))
+    c.seek_second.ensures ∙ found s (rw (c.from-size.ensures, count_at (code s)) at c.if-rest-size.true)
 
 pub overflow_add-half : goal.overflow_add-half
 overflow_add-half c = record { fits = omega (arith, in_table c.loop-rest.invariant) }
@@ -59,4 +51,4 @@ pub loop-rest-preserved : goal.loop-rest-preserved
 unfolding counts
 loop-rest-preserved c =
     let s = c.loop-rest.invariant in
-    rw (add-one, count_at (code s)) (passed s (rw (count_at (code s)) at c.if-rest-size.false))
+    rw (add-one, c.from-size.ensures, count_at (code s)) (passed s (rw (c.from-size.ensures, count_at (code s)) at c.if-rest-size.false))

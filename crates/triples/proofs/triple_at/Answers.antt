@@ -14,16 +14,20 @@ all-requires c =
     let (low, high) = within 2 6 (sym c.outside_sheets.ensures ∙ c.if-outside_sheets.false) in
     record { le_n = low; n_bound = high }
 
-pub returns-then-all-position : goal.returns-then-all-position
+pub returns-then-from-position : goal.returns-then-from-position
 unfolding triple_at_reply
-returns-then-all-position c = rw (sym c.outside_sheets.ensures ∙ c.if-outside_sheets.false, le-ltb _ _ (rw c.all.ensures at c.if-all-position.true))
+returns-then-from-position c = rw (sym c.outside_sheets.ensures ∙ c.if-outside_sheets.false, le-ltb _ _ (rw (c.from.ensures, c.all.ensures) at c.if-from-position.true))
 
 pub seek-requires : goal.seek-requires
 seek-requires c =
     let (low, high) = within 2 6 (sym c.outside_sheets.ensures ∙ c.if-outside_sheets.false) in
-    record { le_n = low; n_bound = high; position_in_bounds = rw c.all.ensures at c.if-all-position.false }
+    record { le_n = low; n_bound = high; position_in_bounds = rw (c.from.ensures, c.all.ensures) at c.if-from-position.false }
 
 pub returns : goal.returns
 unfolding triple_at_reply
 returns c =
-    rw (sym c.outside_sheets.ensures ∙ c.if-outside_sheets.false, lt-ltb _ _ (rw c.all.ensures at c.if-all-position.false)) c.seek.ensures
+    rw (
+      sym c.outside_sheets.ensures ∙ c.if-outside_sheets.false,
+      lt-ltb _ _ (rw (c.from.ensures, c.all.ensures) at c.if-from-position.false),
+      c.seek.ensures,
+    )
