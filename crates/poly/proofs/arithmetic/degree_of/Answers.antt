@@ -18,8 +18,5 @@ pub returns-then-code-eq0 : goal.returns-then-code-eq0
 unfolding degree
 returns-then-code-eq0 c = sym (ap (degree 2) c.if-code-eq0.true)
 
-pub overflow_sub-result : goal.overflow_sub-result
-overflow_sub-result c = (top c.args.code (pos_of_ne-zero c.if-code-eq0.false) c.ranges.code.fits).0
-
 pub returns : goal.returns
 returns c = (top c.args.code (pos_of_ne-zero c.if-code-eq0.false) c.ranges.code.fits).1

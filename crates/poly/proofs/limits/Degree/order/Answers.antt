@@ -6,9 +6,6 @@ use Rattle.poly.proofs.Ranges.{within}
 use Rattle.poly.proofs.Shifts.{one_shl}
 use Rattle.poly.proofs.limits.Degree.order.Goals as goal
 
-pub returns-then-outside : goal.returns-then-outside
-returns-then-outside c = rw (sym c.outside.ensures ∙ c.if-outside.true)
-
 degree : (c : goal.Else-outside) → (1 ≤ c.args.self.n) × (c.args.self.n ≤ 31)
 degree c = within 1 31 (sym c.outside.ensures ∙ c.if-outside.false)
 
