@@ -1,15 +1,13 @@
 -- The reply of the position call.
-use Rattle.std.specs.Prelude.{ℕ, [], ◌∷◌, ◌++◌}
-use Rattle.reply.specs.Numbers.{number_of}
-use Rattle.reply.specs.Reply.{Reply, served, refused, unless}
+use Rattle.std.specs.Prelude.{ℕ, Result, [], ◌∷◌, ◌++◌}
+use Rattle.reply.specs.Reply.{Reply, served, unless}
+use Rattle.reply.specs.Answers.{answer_reply}
+use Rattle.reply.specs.declared.Refusal.{Refusal}
 use Rattle.poly.specs.Causes.{degree_cause, code_causes, common_factor}
 use Rattle.pairs.specs.Pairs.{pairs, index_of}
-use Rattle.positions.specs.declared.Place.{Place}
-use Rattle.positions.specs.declared.Place.TheVariants.{At, Refused}
 
-abbrev pub place_reply : Place → Reply
-place_reply (At position) = served (position ∷ [])
-place_reply (Refused refusal) = refused (number_of refusal)
+abbrev pub place_reply : Result ℕ Refusal → Reply
+place_reply = answer_reply (λ position. position ∷ [])
 
 -- The position of a pair.
 unfoldable pub position_reply : ℕ → ℕ → ℕ → Reply

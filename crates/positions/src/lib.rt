@@ -10,33 +10,20 @@ ghost use Rattle.pairs.specs.Sequences.{compositions, block, sequences};
 ghost use Rattle.positions.specs.Replies.{place_reply, position_reply};
 ghost use Rattle.positions.specs.Ranking.{StandsAt, Among, backwards, Sequence, Parts};
 
-use euclid::Chained;
 use pairs::{share, word_count};
 use ranks::rank10;
 use reply::Refusal;
 
-// The position of two codes, or why they have none.
-#[derive(Clone, Copy)]
-pub enum Place {
-    At(u64),
-    Refused(Refusal),
-}
-
 // Where f and g, both of degree n and odd, stand in the list of degree n.
-pub fn position_of(n: u32, f: u32, g: u32) -> Place
+pub fn position_of(n: u32, f: u32, g: u32) -> Result<u64, Refusal>
     ensures { place_reply result ≡ position_reply n f g }
 {
     let mut chain = [0u32; 32];
-    let chained = euclid::quotients(n, f, g, &mut chain);
-    match chained {
-        Chained::Refused(refusal) => Place::Refused(refusal),
-        Chained::Quotients { count, divisor } => {
-            if divisor != 1 {
-                return Place::Refused(Refusal::CommonFactor);
-            }
-            Place::At(sequence_position(n, &chain, count - 1))
-        }
+    let written = euclid::quotients(n, f, g, &mut chain)?;
+    if written.divisor != 1 {
+        return Err(Refusal::CommonFactor);
     }
+    Ok(sequence_position(n, &chain, written.count - 1))
 }
 
 // The position of the k quotients behind the chain's leading 1, the last one first.
