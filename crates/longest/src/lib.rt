@@ -5,35 +5,28 @@ ghost use Rattle.std.specs.Prelude.{◌≡◌, ◌≤◌, length};
 ghost use Rattle.pairs.specs.Words.{words};
 ghost use Rattle.longest.specs.Replies.{reach_reply, longest_reply};
 
-use poly::{Count, Degree};
+use poly::Degree;
 use reply::Refusal;
 
-// How many positions of the list reach the longest chains, and the first of them; or that none does, at degree 1; or why there is no list.
-#[derive(Clone, Copy)]
-pub enum Reach {
-    From { count: u64, first: u64 },
-    Nowhere,
-    Refused(Refusal),
+// How many positions of the list reach the longest chains, and the first of them.
+#[derive(Clone, Copy, Debug, PartialEq, Eq)]
+pub struct Reach {
+    pub count: u64,
+    pub first: u64,
 }
 
-// Which positions of the list of degree n hold pairs with n + 1 quotients. They are the last ones, one for each kept word of n letters.
-pub fn longest_chains(n: u32) -> Reach
+// Which positions of the list of degree n hold pairs with n + 1 quotients. They are the last ones, one for each kept word of n letters; at
+// degree 1 there is none.
+pub fn longest_chains(n: u32) -> Result<Option<Reach>, Refusal>
     ensures { reach_reply result ≡ longest_reply n }
 {
-    let degree = Degree { n };
-    match degree.list_length() {
-        Count::Refused(refusal) => Reach::Refused(refusal),
-        Count::Is(length) => {
-            let count = reaching(n);
-            if count == 0 {
-                return Reach::Nowhere;
-            }
-            Reach::From {
-                count,
-                first: length - count,
-            }
-        }
+    let length = (Degree { n }).list_length()?;
+    let count = reaching(n);
+    if count == 0 {
+        return Ok(None);
     }
+    let first = length - count;
+    Ok(Some(Reach { count, first }))
 }
 
 // How many they are: (2^n + 2(-1)^n)/3, where (-1)^n is 1 - 2 (n % 2). The table of words' numbers would be laid on the stack.

@@ -1,16 +1,15 @@
 -- `longest_chains` meets its contract: the list's length tells whether the degree is refused, and the number of words of n letters is that
 -- of the positions.
 use mathlib.Core.Bool.{false}
-use mathlib.Core.Path.{◌≡◌, sym, ap, ◌∙◌}
+use mathlib.Core.Path.{◌≡◌, sym, ◌∙◌}
 use mathlib.Core.List.{[], ◌∷◌}
 use Prim.Native.Nat.{ℕ, ◌-◌, ◌≤◌}
 use native.Mathlib.Omega.{arith}
+use Rattle.std.proofs.lemmas.Result.{err_from_is_err_and}
 use lib.ListN.{length}
 use Rattle.reply.specs.Reply.{served, refused}
 use Rattle.poly.specs.Limits.{outside, list_length}
-use Rattle.poly.specs.declared.limits.Count.{Count}
-use Rattle.poly.specs.declared.limits.Count.TheVariants.{Is}
-use Rattle.poly.specs.Replies.{count_reply, length_reply}
+use Rattle.poly.specs.Replies.{length_reply}
 use Rattle.poly.proofs.Ranges.{within, length_served, count_refused}
 use Rattle.pairs.specs.Words.{s10, words as words_of}
 use Rattle.pairs.proofs.Words.{count, length_words}
@@ -42,23 +41,19 @@ module _ (n : ℕ) where
         let first : length' - words ≡ fewer n = omega (arith, known.1, counted, parted n known.0) in
         rw (first, counted) (sym (some_reach n known.0 (omega (arith, counted))))
 
--- the length that the degree answered
-answered : (n : ℕ) {count : Count} {length' : ℕ} → count ≡ Is length' → count_reply count ≡ length_reply n
-    → served (length' ∷ []) ≡ length_reply n
-answered n is e = sym (ap count_reply is) ∙ e
+pub returns-in_err-length : goal.returns-in_err-length
+returns-in_err-length c =
+    let p = err_from_is_err_and c.from_residual.result c.from_residual.ensures.1 in
+    rw (p.1, p.2) (bad_degree c.args.n c.in_err-length.ensures)
 
 pub reaching-count-requires : goal.reaching-count-requires
-reaching-count-requires c = (within 1 31 (length_served _ (answered c.args.n c.in-Is.is c.list_length.ensures)).0).1
+reaching-count-requires c = (within 1 31 (length_served c.args.n c.in_ok-length.ensures).0).1
 
 pub returns-then-count-eq0 : goal.returns-then-count-eq0
-returns-then-count-eq0 c = none _ (answered c.args.n c.in-Is.is c.list_length.ensures) c.reaching-count.ensures c.if-count-eq0.true
+returns-then-count-eq0 c = none c.args.n c.in_ok-length.ensures c.reaching-count.ensures c.if-count-eq0.true
 
-pub overflow_sub-result : goal.overflow_sub-result
-overflow_sub-result c = enough _ (answered c.args.n c.in-Is.is c.list_length.ensures) c.reaching-count.ensures
+pub overflow_sub-first : goal.overflow_sub-first
+overflow_sub-first c = enough c.args.n c.in_ok-length.ensures c.reaching-count.ensures
 
-pub returns-in-Refused : goal.returns-in-Refused
-returns-in-Refused c =
-    bad_degree _ (sym (ap count_reply c.in-Refused.is) ∙ c.list_length.ensures)
-
-pub returns-else-count-eq0 : goal.returns-else-count-eq0
-returns-else-count-eq0 c = some _ (answered c.args.n c.in-Is.is c.list_length.ensures) c.reaching-count.ensures c.if-count-eq0.false
+pub returns : goal.returns
+returns c = some c.args.n c.in_ok-length.ensures c.reaching-count.ensures c.if-count-eq0.false
