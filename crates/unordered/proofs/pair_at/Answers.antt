@@ -2,15 +2,14 @@
 -- call serves at twice the entry, which is below 2^61.
 use mathlib.Core.Bool.{false}
 use mathlib.Core.List.{[], ◌∷◌}
-use mathlib.Core.Path.{◌≡◌, sym, ap, ◌∙◌}
+use mathlib.Core.Path.{◌≡◌, sym, ◌∙◌}
 use Prim.Native.Nat.{ℕ, ◌*◌, ◌/◌, ◌^◌, ◌≤◌, ◌<◌}
 use native.Mathlib.Omega.{arith}
 use borrow.Author.Tests.{le-leb}
+use Rattle.std.proofs.lemmas.Result.{err_from_is_err_and}
 use Rattle.reply.specs.Reply.{served, refused}
 use Rattle.poly.specs.Limits.{outside, list_length}
-use Rattle.poly.specs.declared.limits.Count.{Count}
-use Rattle.poly.specs.declared.limits.Count.TheVariants.{Is}
-use Rattle.poly.specs.Replies.{count_reply, length_reply}
+use Rattle.poly.specs.Replies.{length_reply}
 use Rattle.poly.proofs.Ranges.{within, length_served, count_refused, list_length_lt}
 use Rattle.unordered.specs.Unordered.{unordered_length}
 use Rattle.unordered.specs.Replies.{unordered_reply}
@@ -33,27 +32,21 @@ module _ (n entry : ℕ) where
     fits : entry < length / 2 → 2 * entry < 2 ^ 64
     fits h = omega (arith, known.1, list_length_lt n (within 1 31 known.0).1)
 
--- the length that the degree answered
-answered : (n : ℕ) {count : Count} {length : ℕ} → count ≡ Is length → count_reply count ≡ length_reply n
-    → served (length ∷ []) ≡ length_reply n
-answered n is e = sym (ap count_reply is) ∙ e
+pub returns-in_err-length : goal.returns-in_err-length
+returns-in_err-length c =
+    let a = c.args in
+    let p = err_from_is_err_and c.from_residual.result c.from_residual.ensures.1 in
+    rw (p.1, p.2) (bad_degree a.n a.entry c.in_err-length.ensures)
 
 pub returns-then-length-entry : goal.returns-then-length-entry
 returns-then-length-entry c =
     let a = c.args in
-    bad-entry a.n a.entry _ (answered a.n c.in-Is.is c.list_length.ensures) c.if-length-entry.true
+    bad-entry a.n a.entry _ c.in_ok-length.ensures c.if-length-entry.true
 
 pub overflow_mul-position : goal.overflow_mul-position
 overflow_mul-position c =
     let a = c.args in
-    record { fits = fits a.n a.entry _ (answered a.n c.in-Is.is c.list_length.ensures) c.if-length-entry.false }
+    record { fits = fits a.n a.entry _ c.in_ok-length.ensures c.if-length-entry.false }
 
-pub returns-in-Refused : goal.returns-in-Refused
-returns-in-Refused c =
-    let a = c.args in
-    bad_degree a.n a.entry (sym (ap count_reply c.in-Refused.is) ∙ c.list_length.ensures)
-
-pub returns-else-length-entry : goal.returns-else-length-entry
-returns-else-length-entry c =
-    let a = c.args in
-    c.pair_at.ensures ∙ sym (doubled a.n a.entry)
+pub returns : goal.returns
+returns c = c.pair_at.ensures ∙ sym (doubled c.args.n c.args.entry)
