@@ -1,17 +1,15 @@
 -- The reply of the call for the pairs from a position on, and the lent slice afterwards.
-use Rattle.std.specs.Prelude.{ℕ, ◌/◌, List, [], ◌∷◌, ◌++◌, leb, ltb, length, take, drop}
-use Rattle.reply.specs.Numbers.{number_of}
-use Rattle.reply.specs.Reply.{Reply, served, refused, unless, ◌gives◌, after}
+use Rattle.std.specs.Prelude.{ℕ, Result, ◌/◌, List, [], ◌∷◌, ◌++◌, leb, ltb, length, take, drop}
+use Rattle.reply.specs.Reply.{Reply, served, unless, ◌gives◌, after}
+use Rattle.reply.specs.Answers.{answer_reply}
+use Rattle.reply.specs.declared.Refusal.{Refusal}
 use Rattle.poly.specs.Limits.{list_length}
 use Rattle.poly.specs.Causes.{degree_cause}
 use Rattle.euclid.specs.Chain.{Pair}
 use Rattle.pairs.specs.Pairs.{pairs}
-use Rattle.listing.specs.declared.Filled.{Filled}
-use Rattle.listing.specs.declared.Filled.TheVariants.{Pairs, Refused}
 
-abbrev pub filled_reply : Filled → Reply
-filled_reply (Pairs count) = served (count ∷ [])
-filled_reply (Refused refusal) = refused (number_of refusal)
+abbrev pub filled_reply : Result ℕ Refusal → Reply
+filled_reply = answer_reply (λ count. count ∷ [])
 
 -- f and g of each pair in turn.
 abbrev pub codes : List Pair → List ℕ

@@ -11,34 +11,23 @@ ghost use Rattle.listing.specs.Replies.{filled_reply, from_reply, from_content};
 ghost use Rattle.listing.specs.Filling.{Written, Ready, HeadsOf, state_of, onward};
 
 use pairs::{share, word_count};
-use poly::{Count, Degree};
+use poly::Degree;
 use reply::Refusal;
 
-// How many pairs were written, or why there are none.
-#[derive(Clone, Copy)]
-pub enum Filled {
-    Pairs(usize),
-    Refused(Refusal),
-}
-
-// Writes f and g of the pairs of degree n from a position on to the front of out, as many as there are and as fit.
-pub fn pairs_from(n: u32, position: u64, out: &mut [u32]) -> Filled
+// Writes f and g of the pairs of degree n from a position on to the front of out, as many as there are and as fit, and gives how many it
+// wrote.
+pub fn pairs_from(n: u32, position: u64, out: &mut [u32]) -> Result<usize, Refusal>
     ensures reply { filled_reply result ≡ from_reply n position (length out.old) }
     ensures content { out.new ≡ from_content n position out.old }
 {
-    let degree = Degree { n };
-    match degree.list_length() {
-        Count::Refused(refusal) => Filled::Refused(refusal),
-        Count::Is(length) => {
-            if length <= position {
-                return Filled::Refused(Refusal::PositionRange);
-            }
-            if out.len() < 2 {
-                return Filled::Refused(Refusal::SliceLength);
-            }
-            Filled::Pairs(fill_list(n, position, out))
-        }
+    let length = (Degree { n }).list_length()?;
+    if length <= position {
+        return Err(Refusal::PositionRange);
     }
+    if out.len() < 2 {
+        return Err(Refusal::SliceLength);
+    }
+    Ok(fill_list(n, position, out))
 }
 
 // The same for a degree that has pairs, block by block: the pairs of 2 quotients, of 3, and so on. `skip` pairs of what is to come are left

@@ -6,14 +6,13 @@ use Prim.Native.Nat.{ℕ, zero, suc, ◌+◌, ◌/◌, ◌≤◌, ◌<◌}
 use native.Mathlib.Nat.{sub-zero, zero-add}
 use native.Mathlib.Omega.{arith}
 use borrow.Author.Tests.{le-leb, lt-leb, lt-ltb, le-ltb}
+use Rattle.std.proofs.lemmas.Result.{err_from_is_err_and}
 use lib.ListN.{length, take, drop}
 use lib.Seq.{sets, sets-eq}
 use Rattle.reply.specs.Reply.{Reply, served, refused, after}
 use Rattle.reply.proofs.Order.{kept}
 use Rattle.poly.specs.Limits.{outside, list_length}
-use Rattle.poly.specs.declared.limits.Count.{Count}
-use Rattle.poly.specs.declared.limits.Count.TheVariants.{Is}
-use Rattle.poly.specs.Replies.{count_reply, length_reply}
+use Rattle.poly.specs.Replies.{length_reply}
 use Rattle.poly.proofs.Ranges.{within, length_served, length_refused}
 use Rattle.euclid.specs.Chain.{Pair}
 use Rattle.pairs.specs.Pairs.{pairs}
@@ -84,39 +83,32 @@ module _ (n position : ℕ) (out : List ℕ) where
               w.content ∙ ap (λ ps. sets out 0 (codes ps)) same ∙ sets-eq (codes given) out 0 fits
               ∙ rw zero-add (sym (ap (λ (r : Reply). after r (codes given ++ drop (length (codes given)) out) out) reply))
 
--- the length that the degree answered
-answered : (n : ℕ) {count : Count} {length' : ℕ} → count ≡ Is length' → count_reply count ≡ length_reply n
-    → served (length' ∷ []) ≡ length_reply n
-answered n is e = sym (ap count_reply is) ∙ e
+pub returns-in_err-length : goal.returns-in_err-length
+returns-in_err-length c =
+    let a = c.args in
+    let p = err_from_is_err_and c.from_residual.result c.from_residual.ensures.1 in
+    let r = bad_degree a.n a.position a.out.now c.in_err-length.ensures in
+    record { reply = rw (p.1, p.2) r.0; content = r.1 }
 
 pub returns-then-length-position : goal.returns-then-length-position
 returns-then-length-position c =
     let a = c.args in
-    let r = bad_position a.n a.position a.out.now _ (answered a.n c.in-Is.is c.list_length.ensures) c.if-length-position.true in
+    let r = bad_position a.n a.position a.out.now _ c.in_ok-length.ensures c.if-length-position.true in
     record { reply = r.0; content = r.1 }
 
 pub returns-then-out-lt2 : goal.returns-then-out-lt2
 returns-then-out-lt2 c =
     let a = c.args in
-    let r = no_room a.n a.position a.out.now _ (answered a.n c.in-Is.is c.list_length.ensures) c.if-length-position.false
-    c.if-out-lt2.true in
+    let r = no_room a.n a.position a.out.now _ c.in_ok-length.ensures c.if-length-position.false c.if-out-lt2.true in
     record { reply = r.0; content = r.1 }
 
 pub fill_list-requires : goal.fill_list-requires
 fill_list-requires c =
     let a = c.args in
-    asked a.n a.position a.out.now _ (answered a.n c.in-Is.is c.list_length.ensures) c.if-length-position.false
+    asked a.n a.position a.out.now _ c.in_ok-length.ensures c.if-length-position.false
 
-pub returns-in-Refused : goal.returns-in-Refused
-returns-in-Refused c =
+pub returns : goal.returns
+returns c =
     let a = c.args in
-    let r = bad_degree a.n a.position a.out.now
-    (sym (ap count_reply c.in-Refused.is) ∙ c.list_length.ensures) in
-    record { reply = r.0; content = r.1 }
-
-pub returns-else-out-lt2 : goal.returns-else-out-lt2
-returns-else-out-lt2 c =
-    let a = c.args in
-    let r = filled a.n a.position a.out.now _ (answered a.n c.in-Is.is c.list_length.ensures) c.if-length-position.false c.if-out-lt2.false
-    c.fill_list.ensures in
+    let r = filled a.n a.position a.out.now _ c.in_ok-length.ensures c.if-length-position.false c.if-out-lt2.false c.fill_list.ensures in
     record { reply = r.0; content = r.1 }
