@@ -5,7 +5,6 @@ pub mod Keeping
 pub mod Beginning
 pub mod Draws
 pub mod Marks
-pub mod Setting
 pub mod Righting
 pub mod Soundness
 pub mod Told

@@ -6,11 +6,12 @@ use Prim.Native.Nat.{ℕ, ◌+◌, ◌^◌, ◌≤◌, ◌<◌}
 use native.Mathlib.Omega.{arith}
 use borrow.Author.Tests.{lt-ltb, le-ltb, ltb-false}
 use lib.Dec.{ltb}
-use Rattle.reply.specs.Reply.{served, refused, spent}
+use Rattle.reply.specs.Reply.{served, refused, spent, unless}
+use Rattle.reply.proofs.Order.{failed}
 use Rattle.poly.specs.Limits.{outside, list_length}
 use Rattle.poly.proofs.Ranges.{inside, within, neither, list_length_lt}
 use Rattle.walk.specs.declared.Walk.{Walk}
-use Rattle.walk.specs.Walks.{any_above, full_count, bad_record, look_reply}
+use Rattle.walk.specs.Walks.{any_above, full_count, bad_record, record_cause, held_reply, look_reply}
 use Rattle.walk.specs.Claims.{Good}
 use Rattle.walk.proofs.Above.{not_above_lem, none_above}
 
@@ -76,6 +77,10 @@ module _ (walk : Walk) where
     pub look_end : list_length n ≤ position → spent ≡ look_reply walk
     unfolding look_reply
     look_end l = rw (sound, le-ltb position (list_length n) l)
+
+  pub look_refused : {k : ℕ} → refused k ≡ unless (record_cause walk ∷ []) (served []) → refused k ≡ look_reply walk
+  unfolding look_reply
+  look_refused e = failed [] (held_reply walk) (record_cause walk ∷ []) e
 
   pub bad_look : bad_record walk ≡ true → refused 3 ≡ look_reply walk
   unfolding look_reply

@@ -1,18 +1,16 @@
 -- The walk (document 01, "Walk"; document 02, request c: its marks, g: its bonders, and h: the next pair kept): what start, look, draw,
 -- setting a mark, going back to one and setting the next pair right reply, and the record after them.
-use Rattle.std.specs.Prelude.{ℕ, ◌+◌, ◌-◌, Bool, false, ◌||◌, ◌&&◌, cond, List, [], ◌∷◌, ltb, eqb, get_or, set, replicate}
-use Rattle.reply.specs.Numbers.{number_of}
-use Rattle.reply.specs.Reply.{Reply, served, refused, spent, Cause, ◌gives◌, unless, after}
+use Rattle.std.specs.Prelude.{ℕ, ◌+◌, ◌-◌, Bool, false, ◌||◌, ◌&&◌, cond, List, [], ◌∷◌, ltb, eqb, get_or, set, replicate, Option, Result}
+use Rattle.reply.specs.declared.Refusal.{Refusal}
+use Rattle.reply.specs.Reply.{Reply, served, spent, Cause, ◌gives◌, unless, after}
+use Rattle.reply.specs.Answers.{answer_reply, optional_reply}
 use Rattle.poly.specs.Limits.{outside, list_length}
 use Rattle.poly.specs.Causes.{degree_cause}
 use Rattle.euclid.specs.Chain.{Pair}
 use Rattle.pairs.specs.Pairs.{entry}
 use Rattle.pairs.specs.Replies.{pair_reply}
+use Rattle.pairs.specs.declared.pair.Pair.{Pair as Given}
 use Rattle.walk.specs.declared.Walk.{Walk}
-use Rattle.walk.specs.declared.Change.{Change}
-use Rattle.walk.specs.declared.Change.TheVariants.{Done, Refused}
-use Rattle.walk.specs.declared.Next.{Next}
-use Rattle.walk.specs.declared.Next.TheVariants.{Codes, Spent, Refused as Unserved}
 
 -- The next pair at a position of the list of degree n: the entry there; 0 and 0 from the list's end on.
 unfoldable pub next_pair : ℕ → ℕ → Pair
@@ -34,15 +32,14 @@ walk_at n position marks counts = record {
 abbrev pub begun : ℕ → Walk
 begun n = walk_at n 0 (replicate 8 0) (replicate 8 0)
 
-abbrev pub change_reply : Change → Reply
-change_reply Done = served []
-change_reply (Refused refusal) = refused (number_of refusal)
+-- A call that changes a record, or gives one, has no values to give.
+abbrev pub change_reply : {A : Type 0} → Result A Refusal → Reply
+change_reply = answer_reply (λ _. [])
 
--- Starting has no values to give: it gives a record.
 abbrev pub start_reply : ℕ → Reply
 start_reply n = unless (degree_cause n ∷ []) (served [])
 
--- The record that starting gives. Where it is refused, one of degree 0, which every call refuses.
+-- The record that starting gives. Where it is refused there is none; here one of degree 0, which every call refuses, stands for it.
 abbrev pub started : ℕ → Walk
 started n = after (start_reply n) (begun n) (begun 0)
 
@@ -65,10 +62,9 @@ bad_record walk =
 abbrev pub record_cause : Walk → Cause
 record_cause walk = bad_record walk gives 3
 
-abbrev pub next_reply : Next → Reply
-next_reply (Codes f g) = served (f ∷ g ∷ [])
-next_reply Spent = spent
-next_reply (Unserved refusal) = refused (number_of refusal)
+-- A look and a draw give a pair; where there is none left, they say spent.
+abbrev pub next_reply : Result (Option Given) Refusal → Reply
+next_reply = optional_reply (λ pair. pair.f ∷ pair.g ∷ [])
 
 -- This pair where the position is below the length of the list of degree n; spent from there on.
 abbrev pub pair_or_spent : ℕ → ℕ → Pair → Reply

@@ -1,36 +1,31 @@
 -- `go_back` meets its contract: it is refused where setting the mark is, and then by the one test of its own.
-use mathlib.Core.Path.{sym, ap, ◌∙◌}
-use native.Mathlib.Omega.{arith}
-use Rattle.poly.specs.Replies.{checked_reply}
-use Rattle.walk.proofs.Tests.{test_known}
-use Rattle.walk.proofs.Looks.{good}
+use mathlib.Core.Path.{◌∙◌}
+use Rattle.std.proofs.lemmas.Result.{err_from_is_err_and}
+use Rattle.walk.proofs.Tests.{test_passes}
+use Rattle.walk.proofs.Looks.{good as good_record}
 use Rattle.walk.proofs.Marks.{back_untested, back_empty, back_served, back_refused, back_done}
 use Rattle.walk.proofs.Walk.go_back.Goals as goal
 
-pub bounds-marks-mark : goal.bounds-marks-mark
-bounds-marks-mark c = let one = (let a = c.args in test_known a.self a.mark 18 (sym (ap checked_reply c.in-Passed.is) ∙ c.checked_number.ensures)).1 in omega arith
+pub returns-in_err-length_for : goal.returns-in_err-length_for
+returns-in_err-length_for c =
+    let walk = c.args.self.now in
+    let p = err_from_is_err_and c.from_residual.result c.from_residual.ensures.1 in
+    let e = back_untested walk c.args.mark c.in_err-length_for.ensures.refuses in
+    record { reply = rw (p.1, p.2) e; after = back_refused walk c.args.mark e }
 
 pub returns-then-stored-eq0 : goal.returns-then-stored-eq0
 returns-then-stored-eq0 c =
-    let a = c.args in
-    let (reply, walk) = c.refused-then-stored-eq0.ensures in
-    let e = back_empty a.self a.mark (sym (ap checked_reply c.in-Passed.is) ∙ c.checked_number.ensures) c.if-stored-eq0.true in
-    (reply ∙ e, walk ∙ back_refused a.self a.mark e)
+    let walk = c.args.self.now in
+    let (good, one, long) = c.in_ok-length_for.ensures.passes in
+    let e = back_empty walk c.args.mark (test_passes walk c.args.mark 18 good one) c.if-stored-eq0.true in
+    record { reply = e; after = back_refused walk c.args.mark e }
 
-pub walk_at-requires : goal.walk_at-requires
-walk_at-requires c =
-    (good c.args.self (let a = c.args in test_known a.self a.mark 18 (sym (ap checked_reply c.in-Passed.is) ∙ c.checked_number.ensures)).0).degree_high
+pub work_out-requires : goal.work_out-requires
+work_out-requires c = (good_record c.args.self.now c.in_ok-length_for.ensures.passes.0).degree_high
 
-pub returns-in-Refused : goal.returns-in-Refused
-returns-in-Refused c =
-    let a = c.args in
-    let (reply, walk) = c.refused.ensures in
-    let told = sym (ap checked_reply c.in-Refused.is) in
-    let e = back_untested a.self a.mark (told ∙ c.checked_number.ensures) in
-    (reply ∙ e, walk ∙ back_refused a.self a.mark e)
-
-pub returns-else-stored-eq0 : goal.returns-else-stored-eq0
-returns-else-stored-eq0 c =
-    let a = c.args in
-    let e = back_served a.self a.mark (sym (ap checked_reply c.in-Passed.is) ∙ c.checked_number.ensures) c.if-stored-eq0.false in
-    (e, rw c.walk_at.ensures (back_done a.self a.mark e))
+pub returns : goal.returns
+returns c =
+    let walk = c.args.self.now in
+    let (good, one, long) = c.in_ok-length_for.ensures.passes in
+    let e = back_served walk c.args.mark (test_passes walk c.args.mark 18 good one) c.if-stored-eq0.false in
+    record { reply = e; after = c.work_out.ensures ∙ back_done walk c.args.mark e }

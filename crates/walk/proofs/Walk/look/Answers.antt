@@ -1,30 +1,20 @@
 -- `look` meets its contract: of a good record, the position decides between the pair that it holds and the end.
-use mathlib.Core.List.{[]}
-use mathlib.Core.Path.{sym, ap, ◌∙◌}
-use borrow.Author.Tests.{leb-true, leb-false}
-use Rattle.reply.specs.Reply.{served}
-use Rattle.reply.proofs.Order.{sole_served, sole_refused}
-use Rattle.poly.specs.Replies.{checked_reply}
-use Rattle.walk.specs.Walks.{bad_record}
-use Rattle.walk.proofs.Looks.{bad_look, look_below, look_end}
+use native.Mathlib.Omega.{arith}
+use Rattle.std.proofs.lemmas.Result.{err_from_is_err_and}
+use Rattle.walk.proofs.Looks.{look_refused, look_below, look_end}
 use Rattle.walk.proofs.Walk.look.Goals as goal
 
-pub returns-then-at_end : goal.returns-then-at_end
-returns-then-at_end c =
-    let walk = c.args.self in
-    look_end walk ((sole_served (bad_record c.args.self) 3 (served []) (sym (ap checked_reply c.in-Passed.is) ∙ c.checked.ensures)).0) (leb-true _ _ (sym c.at_end.ensures ∙ c.if-at_end.true))
+pub returns-in_err-length : goal.returns-in_err-length
+returns-in_err-length c =
+    let p = err_from_is_err_and c.from_residual.result c.from_residual.ensures.1 in
+    rw (p.1, p.2) (look_refused c.args.self.now c.in_err-length.ensures.refuses)
 
-pub returns-in-Refused : goal.returns-in-Refused
-returns-in-Refused c =
-    let walk = c.args.self in
-    let told = sym (ap checked_reply c.in-Refused.is) in
-    let (bad, three) = sole_refused (bad_record walk) 3 [] (told ∙ c.checked.ensures) in
-    rw three (bad_look walk bad)
+pub returns-then-length-self : goal.returns-then-length-self
+returns-then-length-self c =
+    let (good, long) = c.in_ok-length.ensures.passes in
+    look_end c.args.self.now good (omega arith)
 
-pub returns-else-at_end : goal.returns-else-at_end
-returns-else-at_end c =
-    let walk = c.args.self in
-    look_below walk ((sole_served (bad_record c.args.self) 3 (served []) (sym (ap checked_reply c.in-Passed.is) ∙ c.checked.ensures)).0) (leb-false _ _ (sym c.at_end.ensures ∙ c.if-at_end.false))
-
-pub at_end-requires : goal.at_end-requires
-at_end-requires c = ((sole_served (bad_record c.args.self) 3 (served []) (sym (ap checked_reply c.in-Passed.is) ∙ c.checked.ensures)).0)
+pub returns : goal.returns
+returns c =
+    let (good, long) = c.in_ok-length.ensures.passes in
+    rw (c.held-pair.ensures.f, c.held-pair.ensures.g) (look_below c.args.self.now good (omega arith))
