@@ -1,22 +1,19 @@
 -- What the site call and the sheet calls reply, and what the lent bytes hold after a sheet call.
-use Rattle.std.specs.Prelude.{ℕ, ◌*◌, ◌^◌, Bool, ◌||◌, List, [], ◌∷◌, ◌++◌, map, leb, ltb, length, drop}
-use Rattle.reply.specs.Numbers.{number_of}
-use Rattle.reply.specs.Reply.{Reply, served, refused, Cause, ◌gives◌, unless, after}
+use Rattle.std.specs.Prelude.{ℕ, ⊤, Result, ◌*◌, ◌^◌, Bool, ◌||◌, List, [], ◌∷◌, ◌++◌, map, leb, ltb, length, drop}
+use Rattle.reply.specs.Answers.{answer_reply}
+use Rattle.reply.specs.Reply.{Reply, served, Cause, ◌gives◌, unless, after}
+use Rattle.reply.specs.declared.Refusal.{Refusal}
 use Rattle.poly.specs.Causes.{degree_cause, sheet_degree_cause, code_causes, coprime_causes}
 use Rattle.squares.specs.Symbols.{symbol}
 use Rattle.squares.specs.Sheets.{sheet}
 use Rattle.squares.specs.declared.Symbols.{Symbols}
-use Rattle.squares.specs.declared.Symbols.TheVariants.{Both, Refused}
-use Rattle.squares.specs.declared.Laid.{Laid}
-use Rattle.squares.specs.declared.Laid.TheVariants.{Done, Refused as Left}
 
 -- Row or column is not below 2^n.
 abbrev pub off_site : ℕ → ℕ → ℕ → Bool
 off_site n row col = leb (2 ^ n) row || leb (2 ^ n) col
 
-abbrev pub symbols_reply : Symbols → Reply
-symbols_reply (Both first second) = served (first ∷ second ∷ [])
-symbols_reply (Refused refusal) = refused (number_of refusal)
+abbrev pub symbols_reply : Result Symbols Refusal → Reply
+symbols_reply = answer_reply (λ symbols. symbols.first ∷ symbols.second ∷ [])
 
 abbrev pub site_causes : ℕ → ℕ → ℕ → ℕ → ℕ → List Cause
 site_causes n f g row col = degree_cause n ∷ code_causes n f ++ code_causes n g ++ (off_site n row col gives 5 ∷ [])
@@ -25,9 +22,8 @@ site_causes n f g row col = degree_cause n ∷ code_causes n f ++ code_causes n 
 unfoldable pub site_reply : ℕ → ℕ → ℕ → ℕ → ℕ → Reply
 site_reply n f g row col = unless (site_causes n f g row col) (served (symbol 2 n f row col ∷ symbol 2 n g row col ∷ []))
 
-abbrev pub laid_reply : Laid → Reply
-laid_reply Done = served []
-laid_reply (Left refusal) = refused (number_of refusal)
+abbrev pub laid_reply : Result ⊤ Refusal → Reply
+laid_reply = answer_reply (λ _. [])
 
 -- A sheet of several codes, which must be pairwise coprime, has one byte for each of them a site: two codes, or three (document 02, request
 -- e).

@@ -9,48 +9,35 @@ ghost use Rattle.squares.specs.Doubling.{room_reply, codes_of, unit_symbols, by_
 ghost use Rattle.squares.specs.Symbols.{from_digits};
 ghost use Rattle.squares.specs.Lines.{parity, Moved, exchanged, Lower};
 
-use poly::{Checked, Count, Degree};
+use poly::Degree;
 use reply::Refusal;
 
-// The symbols of f and of g at a site, or why there are none.
+// The symbols of f and of g at a site.
 #[derive(Clone, Copy)]
-pub enum Symbols {
-    Both(u32, u32),
-    Refused(Refusal),
+pub struct Symbols {
+    pub first: u32,
+    pub second: u32,
 }
 
 // The site call: both symbols at a row and a column.
-pub fn site(n: u32, f: u32, g: u32, row: u32, col: u32) -> Symbols
+pub fn site(n: u32, f: u32, g: u32, row: u32, col: u32) -> Result<Symbols, Refusal>
     ensures { symbols_reply result ≡ site_reply n f g row col }
 {
-    let Count::Is(order) = (Degree { n }).order() else {
-        return Symbols::Refused(Refusal::DegreeRange);
-    };
-    let codes = poly::check_pair(n, f, g);
-    if let Checked::Refused(refusal) = codes {
-        return Symbols::Refused(refusal);
+    let order = (Degree { n }).order()?;
+    poly::check_pair(n, f, g)?;
+    let row = u64::from(row);
+    let col = u64::from(col);
+    if order <= row || order <= col {
+        return Err(Refusal::SiteRange);
     }
-    if order <= row as u64 {
-        return Symbols::Refused(Refusal::SiteRange);
-    }
-    if order <= col as u64 {
-        return Symbols::Refused(Refusal::SiteRange);
-    }
-    let place = row as u64 * order + col as u64;
+    let place = row * order + col;
     let line = reversed(place) >> (64 - 2 * n);
-    let both = symbols_of(n, f, g, line);
-    Symbols::Both(both.first, both.second)
-}
-
-#[derive(Clone, Copy)]
-struct Both {
-    first: u32,
-    second: u32,
+    Ok(symbols_of(n, f, g, line))
 }
 
 // The one place where symbols are made from a line: those of f and g, with cell i as bit i. Each output cell is a count of ones modulo 2.
 // The window has cells i to i + 31; a code of degree n keeps those up to cell i + n.
-fn symbols_of(n: u32, f: u32, g: u32, line: u64) -> Both
+fn symbols_of(n: u32, f: u32, g: u32, line: u64) -> Symbols
     requires { n < 32 }
     ensures { (result.first ≡ from_digits 2 n (parity f line)) × (result.second ≡ from_digits 2 n (parity g line)) }
 {
@@ -65,7 +52,7 @@ fn symbols_of(n: u32, f: u32, g: u32, line: u64) -> Both
         rest = rest / 2;
         i += 1;
     }
-    Both { first, second }
+    Symbols { first, second }
 }
 
 // The 64 bits in reverse, by exchanges of ever wider groups, which the compiler knows as a bit reversal.
@@ -88,52 +75,39 @@ fn swapped(x: u64, width: u32, low: u64) -> u64
     ((x >> width) & low) | ((x & low) << width)
 }
 
-// Whether a sheet was laid.
-#[derive(Clone, Copy)]
-pub enum Laid {
-    Done,
-    Refused(Refusal),
-}
-
 // The sheet call: writes the two squares, laid together, to the front of out.
-pub fn sheet(n: u32, f: u32, g: u32, out: &mut [u8]) -> Laid
+pub fn sheet(n: u32, f: u32, g: u32, out: &mut [u8]) -> Result<(), Refusal>
     ensures result_value { laid_reply result ≡ sheet_reply n f g (length out.old) }
     ensures out_after { out.new ≡ sheet_bytes n f g out.old }
 {
     if (Degree { n }).outside_sheets() {
-        return Laid::Refused(Refusal::SheetDegree);
+        return Err(Refusal::SheetDegree);
     }
-    let codes = euclid::check_coprime(n, f, g);
-    if let Checked::Refused(refusal) = codes {
-        return Laid::Refused(refusal);
-    }
+    euclid::check_coprime(n, f, g)?;
     lay(n, f, g, g, 2, out)
 }
 
 // The sheet call of three codes: writes the three squares, laid together, to the front of out.
-pub fn sheet3(n: u32, f: u32, g: u32, h: u32, out: &mut [u8]) -> Laid
+pub fn sheet3(n: u32, f: u32, g: u32, h: u32, out: &mut [u8]) -> Result<(), Refusal>
     ensures result_value { laid_reply result ≡ sheet3_reply n f g h (length out.old) }
     ensures out_after { out.new ≡ sheet3_bytes n f g h out.old }
 {
-    let three = codes::check_three(n, f, g, h);
-    if let Checked::Refused(refusal) = three {
-        return Laid::Refused(refusal);
-    }
+    codes::check_three(n, f, g, h)?;
     lay(n, f, g, h, 3, out)
 }
 
 // The sheet of the first `width` of three codes that have passed, two or three, if there is room for it.
-fn lay(n: u32, f: u32, g: u32, h: u32, width: usize, out: &mut [u8]) -> Laid
+fn lay(n: u32, f: u32, g: u32, h: u32, width: usize, out: &mut [u8]) -> Result<(), Refusal>
     requires { Fillable n width f g h }
     ensures result_value { laid_reply result ≡ room_reply width n (length out.old) }
     ensures out_after { out.new ≡ after (room_reply width n (length out.old))
         (sheet_of n (codes_of width f g h) ++ drop (width * 4 ^ n) out.old) out.old }
 {
     if out.len() < width << (2 * n) {
-        return Laid::Refused(Refusal::SliceLength);
+        return Err(Refusal::SliceLength);
     }
     fill(n, f, g, h, width, out);
-    Laid::Done
+    Ok(())
 }
 
 // The sheet, site by site: a symbol is linear in the site's number row * 2^n + col, so that the sites from 2^m to 2^(m+1) - 1 are those
