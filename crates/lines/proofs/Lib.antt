@@ -1,4 +1,3 @@
-pub mod Numerals
 pub mod Inputs
 pub mod Putting
 pub mod Decimals

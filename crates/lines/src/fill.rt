@@ -51,8 +51,7 @@ fn add_lines(from: u64, many: usize, codes: &[u32; 512], out: &mut [u8], used: u
     ensures { Adds (lines_from from many codes.now) from out.old used result.used result.next out.new }
 {
     let mut end = used;
-    let mut i: usize = 0;
-    while i < many {
+    for i in 0..many {
         let next = add_line(from, i, codes, out, end);
         if next == end {
             return Filling {
@@ -61,11 +60,10 @@ fn add_lines(from: u64, many: usize, codes: &[u32; 512], out: &mut [u8], used: u
             };
         }
         end = next;
-        i += 1;
     }
     Filling {
         used: end,
-        next: from + i as u64,
+        next: from + many as u64,
     }
 }
 

@@ -9,5 +9,5 @@ mod text;
 
 pub use entry::{entry_line, first_line};
 pub use fill::{Filling, fill_lines};
-pub use input::{Asked, degree_in};
+pub use input::degree_in;
 pub use print::answer;

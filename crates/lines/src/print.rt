@@ -1,7 +1,7 @@
 // Prints what the list program answers. What is written no contract can say, so these functions only write what others made.
 use crate::entry::first_line;
 use crate::fill::fill_lines;
-use crate::input::{Asked, degree_in};
+use crate::input::degree_in;
 use crate::text::refusal_line;
 use std::io;
 use std::io::Write;
@@ -9,8 +9,8 @@ use std::io::Write;
 // Answers the whole input of the program.
 pub fn answer<W: Write>(out: &mut W, input: &[u8]) -> io::Result<()> {
     match degree_in(input) {
-        Asked::Refused(refusal) => refuse(out, refusal.number()),
-        Asked::Degree(n) => print_list(out, n),
+        Ok(n) => print_list(out, n),
+        Err(refusal) => refuse(out, refusal.number()),
     }
 }
 

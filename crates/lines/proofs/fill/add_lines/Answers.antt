@@ -1,3 +1,4 @@
+-- `add_lines` meets its contract: a line more is put, or it is the first that does not fit, or there is none.
 use mathlib.Core.List.{List, []}
 use mathlib.Core.Path.{◌≡◌, refl}
 use Prim.Native.Nat.{ℕ, ◌+◌, ◌*◌, ◌<◌}
@@ -33,42 +34,41 @@ module _ (from many : ℕ) (codes : List ℕ) {out₀ : List ℕ} {used i end : 
       stops = rw same at (begun_last 1 b nothing (omega arith))
 
   -- There is none.
-  ends : i ≡ many → Adds (lines_from from many codes) from out₀ used end (from + i) out
+  ends : i ≡ many → Adds (lines_from from many codes) from out₀ used end (from + many) out
   ends e =
       let none : drop i (lines_from from many codes) ≡ [] = rw e (no_more from many codes) in
-      b.rest end (from + i) out (adds_none (rw none))
+      let all = b.rest end (from + i) out (adds_none (rw none)) in
+      rw e at all
 
 pub loop-i-init : goal.loop-i-init
-loop-i-init c = (begun c.requires.2, omega arith)
+loop-i-init c = begun c.requires.2
 
 pub add_line-next-requires : goal.add_line-next-requires
 add_line-next-requires c =
-    (c.requires.0, omega arith, c.loop-i.invariant.0.room)
+    (c.requires.0, omega arith, c.loop-i.invariant.room)
 
 pub shape_of-out-then-next-end : goal.shape_of-out-then-next-end
 shape_of-out-then-next-end c =
     let a = c.args in
     let below = c.loop-i-test.true in
-    kept a.from a.many a.codes.now c.loop-i.invariant.0 below c.add_line-next.ensures c.if-next-end.true
+    kept a.from a.many a.codes.now c.loop-i.invariant below c.add_line-next.ensures c.if-next-end.true
 
 pub returns-then-next-end : goal.returns-then-next-end
 returns-then-next-end c =
     let a = c.args in
     let below = c.loop-i-test.true in
-    stops a.from a.many a.codes.now c.loop-i.invariant.0 below c.add_line-next.ensures c.if-next-end.true
+    stops a.from a.many a.codes.now c.loop-i.invariant below c.add_line-next.ensures c.if-next-end.true
 
 pub loop-i-preserved : goal.loop-i-preserved
 loop-i-preserved c =
     let a = c.args in
-    let below = c.loop-i-test.true in (
-      goes_on a.from a.many a.codes.now c.loop-i.invariant.0 below c.add_line-next.ensures c.if-next-end.false,
-      omega arith,
-    )
+    let below = c.loop-i-test.true in
+    goes_on a.from a.many a.codes.now c.loop-i.invariant below c.add_line-next.ensures c.if-next-end.false
 
 pub shape_of-out : goal.shape_of-out
-shape_of-out c = c.loop-i.invariant.0.kept
+shape_of-out c = c.loop-i.invariant.kept
 
 pub returns : goal.returns
 returns c =
     let a = c.args in
-    ends a.from a.many a.codes.now c.loop-i.invariant.0 (omega arith)
+    ends a.from a.many a.codes.now c.loop-i.invariant (omega arith)
