@@ -1,13 +1,12 @@
 -- Document 01's list program: it reads one or two decimal digits and a newline; anything else, or a degree outside 1 to 10, gives 1.
-use Rattle.std.specs.Prelude.{ℕ, Result, Ok, Err, ◌+◌, ◌-◌, ◌*◌, Bool, not, ◌&&◌, List, [], ◌∷◌, leb, eqb}
-use Rattle.reply.specs.Numbers.{number_of}
+use Rattle.std.specs.Prelude.{ℕ, Result, ◌+◌, ◌-◌, ◌*◌, Bool, not, ◌&&◌, List, [], ◌∷◌, leb, eqb}
+use Rattle.reply.specs.Answers.{answer_reply}
 use Rattle.reply.specs.Reply.{Reply, served, refused, unless, ◌gives◌}
 use Rattle.poly.specs.Limits.{outside}
 use Rattle.reply.specs.declared.Refusal.{Refusal}
 
 abbrev pub asked_reply : Result ℕ Refusal → Reply
-asked_reply (Ok n) = served (n ∷ [])
-asked_reply (Err refusal) = refused (number_of refusal)
+asked_reply = answer_reply (λ n. n ∷ [])
 
 abbrev pub newline : ℕ
 newline = 10

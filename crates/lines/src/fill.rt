@@ -4,7 +4,7 @@ ghost use Rattle.lines.specs.Filling.{Fills};
 ghost use Rattle.lines.specs.Inner.{Adds, AddsLine, block_lines, line_from, lines_from};
 
 use crate::text::{copy, pair_line, put_pair};
-use listing::Filled;
+use pairs::Pair;
 
 // How many bytes were filled, and the position behind the last line put.
 #[derive(Clone, Copy)]
@@ -37,11 +37,11 @@ fn add_block(n: u32, position: u64, out: &mut [u8], used: usize) -> Filling
 {
     let mut codes = [0u32; 512];
     match listing::pairs_from(n, position, &mut codes) {
-        Filled::Refused(_) => Filling {
+        Ok(many) => add_lines(position, many, &codes, out, used),
+        Err(_) => Filling {
             used,
             next: position,
         },
-        Filled::Pairs(many) => add_lines(position, many, &codes, out, used),
     }
 }
 
@@ -73,13 +73,15 @@ fn add_line(from: u64, i: usize, codes: &[u32; 512], out: &mut [u8], used: usize
     requires { (from < 2 ^ 63) × (i < 256) × (used ≤ length out.old) }
     ensures { AddsLine (line_from from codes.now i) out.old used result out.new }
 {
-    let f = codes[2 * i];
-    let g = codes[2 * i + 1];
+    let pair = Pair {
+        f: codes[2 * i],
+        g: codes[2 * i + 1],
+    };
     if 63 <= out.len() - used {
-        return put_pair(from + i as u64, f, g, out, used);
+        return put_pair(from + i as u64, pair, out, used);
     }
     let mut line = [0u8; 64];
-    let size = pair_line(from + i as u64, f, g, &mut line);
+    let size = pair_line(from + i as u64, pair, &mut line);
     if out.len() - used < size {
         return used;
     }

@@ -3,6 +3,7 @@ use crate::entry::first_line;
 use crate::fill::fill_lines;
 use crate::input::degree_in;
 use crate::text::refusal_line;
+use reply::Refusal;
 use std::io;
 use std::io::Write;
 
@@ -10,13 +11,13 @@ use std::io::Write;
 pub fn answer<W: Write>(out: &mut W, input: &[u8]) -> io::Result<()> {
     match degree_in(input) {
         Ok(n) => print_list(out, n),
-        Err(refusal) => refuse(out, refusal.number()),
+        Err(refusal) => refuse(out, refusal),
     }
 }
 
-fn refuse<W: Write>(out: &mut W, number: u32) -> io::Result<()> {
+fn refuse<W: Write>(out: &mut W, refusal: Refusal) -> io::Result<()> {
     let mut line = [0u8; 64];
-    let size = refusal_line(number, &mut line);
+    let size = refusal_line(refusal, &mut line);
     out.write_all(&line[..size])
 }
 

@@ -3,45 +3,38 @@
 // the first and the last are printed, and a checksum of all.
 #![tactic(auto)]
 
-ghost use Rattle.std.specs.Prelude.{◌<◌};
-
 use std::io;
 
-// The input of a case on a line of its own, with its end marked, and then what the program answers.
-fn case(rt: &impl Print, input: &[u8]) -> io::Result<()> {
+// The input of a case, on a line of its own with its end marked.
+fn show_input(rt: &impl Print, input: &[u8]) -> io::Result<()> {
     rt.write_all(b"input ")?;
     rt.write_all(input)?;
-    rt.write_all(b"|\n")?;
+    rt.write_all(b"|\n")
+}
+
+// The input, and then what the program answers.
+fn case(rt: &impl Print, input: &[u8]) -> io::Result<()> {
+    show_input(rt, input)?;
     lines::answer(&mut io::writer(rt), input)
 }
 
 // The same for an input whose list is long.
 fn long_case(rt: &impl Print, input: &[u8]) -> io::Result<()> {
-    rt.write_all(b"input ")?;
-    rt.write_all(input)?;
-    rt.write_all(b"|\n")?;
-    let lines::Asked::Degree(n) = lines::degree_in(input) else {
+    show_input(rt, input)?;
+    let Ok(n) = lines::degree_in(input) else {
         return Ok(());
     };
-    let poly::Count::Is(count) = (poly::Degree { n }).list_length() else {
+    let Ok(count) = (poly::Degree { n }).list_length() else {
         return Ok(());
     };
     summary(rt, n, count)
 }
 
-fn wide(byte: u8) -> u64
-    ensures { result < 256 }
-{
-    byte as u64
-}
-
 // A running checksum with these bytes added.
-fn mixed(sum: u64, bytes: &[u8]) -> u64 {
+fn mixed(sum: u32, bytes: &[u8]) -> u32 {
     let mut total = sum;
-    let mut i: usize = 0;
-    while i < bytes.len() {
-        total = (total % 4294967296 * 31 + wide(bytes[i])) % 4294967296;
-        i += 1;
+    for byte in bytes {
+        total = total.wrapping_mul(31).wrapping_add(u32::from(*byte));
     }
     total
 }
@@ -52,7 +45,7 @@ fn show(rt: &impl Print, n: u32, position: u64) -> io::Result<()> {
     rt.write_all(&text[..size])
 }
 
-fn first_line(rt: &impl Print, n: u32) -> io::Result<u64> {
+fn first_line(rt: &impl Print, n: u32) -> io::Result<u32> {
     let mut text = [0u8; 64];
     let size = lines::first_line(n, &mut text);
     rt.write_all(&text[..size])?;
@@ -60,7 +53,7 @@ fn first_line(rt: &impl Print, n: u32) -> io::Result<u64> {
 }
 
 // The checksum of all the lines of a degree, one filling after the other.
-fn checksum(n: u32, first: u64) -> u64 {
+fn checksum(n: u32, first: u32) -> u32 {
     let mut buffer = [0u8; 65536];
     let mut sum = first;
     let mut position: u64 = 0;
@@ -81,25 +74,18 @@ fn summary(rt: &impl Print, n: u32, count: u64) -> io::Result<()> {
     if 0 < count {
         show(rt, n, count - 1)?;
     }
-    let sum = checksum(n, first);
-    rt.write_all(b"checksum ")?;
-    print!(rt; "{sum}")?;
-    rt.write_all(b"\n")
+    println!(rt; "checksum {}", checksum(n, first))
 }
+
+const INPUTS: [&str; 12] = [
+    "0\n", "11\n", "", "3", "+3\n", "03\n", "003\n", "3\n\n", "10\nx", "1\n", "3\n", "6\n",
+];
 
 fn main(rt: HostRuntime) -> io::Result<()> {
     case(&rt, b"2\n")?;
     long_case(&rt, b"10\n")?;
-    case(&rt, b"0\n")?;
-    case(&rt, b"11\n")?;
-    case(&rt, b"")?;
-    case(&rt, b"3")?;
-    case(&rt, b"+3\n")?;
-    case(&rt, b"03\n")?;
-    case(&rt, b"003\n")?;
-    case(&rt, b"3\n\n")?;
-    case(&rt, b"10\nx")?;
-    case(&rt, b"1\n")?;
-    case(&rt, b"3\n")?;
-    case(&rt, b"6\n")
+    for input in INPUTS {
+        case(&rt, input.as_bytes())?;
+    }
+    Ok(())
 }

@@ -1,12 +1,12 @@
 -- `add_block` meets its contract: the block's codes give the lines of its positions, and where there is no block there are no lines.
 use mathlib.Core.List.{List, [], ◌∷◌}
-use mathlib.Core.Path.{◌≡◌, refl, sym, ap, ◌∙◌}
+use mathlib.Core.Path.{◌≡◌, refl, sym}
 use Prim.Native.Nat.{ℕ, ◌^◌, ◌≤◌, ◌<◌}
 use native.Mathlib.Omega.{arith}
 use lib.ListN.{replicate}
 use Rattle.reply.specs.Reply.{served, refused}
 use Rattle.poly.proofs.Ranges.{within, list_length_lt}
-use Rattle.listing.specs.Replies.{filled_reply, from_reply, from_content}
+use Rattle.listing.specs.Replies.{from_reply, from_content}
 use Rattle.listing.proofs.From.{from_many}
 use Rattle.lines.specs.Inner.{Adds, block_lines, lines_from}
 use Rattle.lines.proofs.Block.{block_is, no_block}
@@ -32,16 +32,16 @@ none n position e = adds_none (rw (no_block n position e))
 pub add_lines-requires : goal.add_lines-requires
 add_lines-requires c =
     let a = c.args in
-    let (low, few) = small a.n a.position _ (sym (ap filled_reply c.in-Pairs.is) ∙ c.pairs_from.ensures.reply) in
+    let (low, few) = small a.n a.position _ c.in-Ok.ensures.reply in
     (low, few, c.requires)
 
-pub returns-in-Refused : goal.returns-in-Refused
-returns-in-Refused c =
+pub returns-in-Err : goal.returns-in-Err
+returns-in-Err c =
     let a = c.args in
-    none a.n a.position (sym (ap filled_reply c.in-Refused.is) ∙ c.pairs_from.ensures.reply)
+    none a.n a.position c.in-Err.ensures.reply
 
-pub returns-in-Pairs : goal.returns-in-Pairs
-returns-in-Pairs c =
+pub returns-in-Ok : goal.returns-in-Ok
+returns-in-Ok c =
     let a = c.args in
-    whole a.n a.position _ (sym (ap filled_reply c.in-Pairs.is) ∙ c.pairs_from.ensures.reply)
-    c.pairs_from.ensures.content c.add_lines.ensures
+    whole a.n a.position _ c.in-Ok.ensures.reply
+    c.in-Ok.ensures.content c.add_lines.ensures

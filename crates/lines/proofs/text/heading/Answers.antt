@@ -9,6 +9,6 @@ pub returns : goal.returns
 returns c =
     let a = c.args in
     let long : length a.out.now ≡ 64 = omega arith in
-    let first = c.field-at.ensures in
+    let first = rw c.from.ensures at c.field-at.ensures.placed in
     let second = c.field.ensures in
-    lined_2 long a.degree a.count first.placed first.upper_bound second.placed second.upper_bound
+    lined_2 long a.degree a.count first c.field-at.ensures.upper_bound second.placed second.upper_bound

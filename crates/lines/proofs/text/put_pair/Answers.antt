@@ -6,6 +6,7 @@ pub returns-clause-placed : goal.returns-clause-placed
 returns-clause-placed c =
     let a = c.args in
     let first = c.field-next.ensures in
-    let second = c.field-last.ensures in
-    let third = c.field.ensures in
-    puts_3 a.position a.f a.g c.requires first.placed first.upper_bound second.placed second.upper_bound third.placed third.upper_bound
+    let second = rw c.from.ensures at c.field-last.ensures.placed in
+    let third = rw c.from-2.ensures at c.field.ensures.placed in
+    puts_3 a.position a.pair.f a.pair.g c.requires first.placed first.upper_bound second c.field-last.ensures.upper_bound third
+    c.field.ensures.upper_bound
