@@ -1,6 +1,6 @@
 -- The codes of a head, once it is known what their fields gave: f, then g, and then what the version has behind them.
 use mathlib.Core.Path.{◌≡◌, sym, ◌∙◌}
-use Prim.Native.Nat.{ℕ, suc, pred, ◌≤◌, ◌<◌}
+use Prim.Native.Nat.{ℕ, suc, pred, ◌≤◌}
 use mathlib.Core.Bool.{false}
 use mathlib.Core.List.{List, [], ◌∷◌, ◌++◌}
 use native.Mathlib.Omega.{arith}
@@ -10,74 +10,63 @@ use Rattle.reply.specs.declared.Refusal.{Refusal}
 use Rattle.reply.proofs.Order.{NoneApplies, passed, none_applies, none_refuses, clear_append}
 use Rattle.poly.specs.Limits.{outside}
 use Rattle.poly.specs.Causes.{sheet_degree_cause, code_causes, own_causes, common_factors}
-use Rattle.poly.proofs.Ranges.{within}
 use Rattle.codes.specs.Replies.{check_three_reply}
-use Rattle.trial_reader.specs.declared.fields.ReadHead.{ReadHead}
-use Rattle.trial_reader.specs.declared.fields.ReadHead.TheVariants.{Refused as Unread}
-use Rattle.leb128.specs.declared.reading.ReadNumber.{ReadNumber}
-use Rattle.leb128.specs.declared.reading.ReadNumber.TheVariants.{Value, Refused}
+use Rattle.std.specs.Prelude.{Result, Ok, Err}
+use Rattle.trial_reader.specs.declared.fields.Head.{Head as CodeHead}
 use Rattle.leb128.specs.Parser.{parsed, pure}
 use Rattle.leb128.specs.Number.{limits64, number, field}
 use Rattle.leb128.specs.Reading.{Reads}
 use Rattle.leb128.proofs.Parser.{either, checked_parsed, resume_barring}
-use Rattle.leb128.proofs.Told.{value_told, refusal_told}
 use Rattle.trial.specs.Rules.{today}
 use Rattle.trial.specs.Trial.{Head, parse_coprime}
-use Rattle.trial.proofs.Trial.{code_small}
 use Rattle.trial_reader.specs.Inner.{coprime_head, third_code, HeadRead}
 
 abbrev head_with : ℕ → ℕ → List ℕ → Head
 head_with v n codes = record { version = v; degree = n; codes = codes }
 
 -- A code that its field gave.
-module _ (n : ℕ) (file : List ℕ) (at : ℕ) {r : ReadNumber} (reads : Reads (field limits64 (code_causes n)) file at r) {code next : ℕ}
-    (e : r ≡ Value code next) where
+module _ (n : ℕ) (file : List ℕ) (at : ℕ) {code next : ℕ} (reads : Reads (field limits64 (code_causes n)) file at (Ok (code, next))) where
   pub code_told : field limits64 (code_causes n) (drop at file) ≡ parsed code (drop next file)
-  code_told = value_told (field limits64 (code_causes n)) file at reads e
+  code_told = sym reads.says
 
   pub code_clear : NoneApplies (code_causes n code)
   code_clear = (checked_parsed number (code_causes n) (drop at file) code_told).0
 
-  pub code_fits : outside 2 6 n ≡ false → code < 4294967296
-  code_fits degree = omega (arith, code_small n code (within 2 6 degree).1 code_clear)
-
-module _ (n : ℕ) (file : List ℕ) (at : ℕ) {r₁ : ReadNumber} (first : Reads (field limits64 (code_causes n)) file at r₁) where
-  pub first_refused : (v : ℕ) {why : Refusal} → r₁ ≡ Refused why → HeadRead (parse_coprime today v n) file at (Unread why)
+module _ (n : ℕ) (file : List ℕ) (at : ℕ) where
+  pub first_refused : (v : ℕ) {why : Refusal} → Reads (field limits64 (code_causes n)) file at (Err why)
+      → HeadRead (parse_coprime today v n) file at (Err why)
   unfolding parse_coprime
-  first_refused v e = record { says = rw (refusal_told (field limits64 (code_causes n)) file at first e); inside = tt }
+  first_refused v refusal = record { says = rw (sym refusal.says); inside = tt }
 
-  module _ {f at₁ : ℕ} (e₁ : r₁ ≡ Value f at₁) {r₂ : ReadNumber} (second : Reads (field limits64 (code_causes n)) file at₁ r₂) where
-    f_told : field limits64 (code_causes n) (drop at file) ≡ parsed f (drop at₁ file)
-    f_told = code_told n file at first e₁
-
-    pub second_refused : (v : ℕ) {why : Refusal} → 1 ≤ v → r₂ ≡ Refused why → HeadRead (parse_coprime today v n) file at (Unread why)
+  module _ {f at₁ : ℕ} (first : Reads (field limits64 (code_causes n)) file at (Ok (f, at₁))) where
+    pub second_refused : (v : ℕ) {why : Refusal} → 1 ≤ v → Reads (field limits64 (code_causes n)) file at₁ (Err why)
+        → HeadRead (parse_coprime today v n) file at (Err why)
     unfolding parse_coprime
-    second_refused v some e =
+    second_refused v some refusal =
         let s : v ≡ suc (pred v) = omega arith in
-        rw s (record { says = rw (f_told, refusal_told (field limits64 (code_causes n)) file at₁ second e); inside = tt })
+        rw s (record { says = rw (sym first.says, sym refusal.says); inside = tt })
 
-    module _ {g at₂ : ℕ} (e₂ : r₂ ≡ Value g at₂) where
-      g_told : field limits64 (code_causes n) (drop at₁ file) ≡ parsed g (drop at₂ file)
-      g_told = code_told n file at₁ second e₂
-
+    module _ {g at₂ : ℕ} (second : Reads (field limits64 (code_causes n)) file at₁ (Ok (g, at₂))) where
       -- Both have passed by themselves.
       pub both_passed : outside 2 6 n ≡ false → served [] ≡ unless (sheet_degree_cause n ∷ own_causes n (f ∷ g ∷ [])) (served [])
       both_passed degree =
-          let clear_g = clear_append (code_causes n g) [] (code_clear n file at₁ second e₂) tt in
-          let clear = clear_append (code_causes n f) (own_causes n (g ∷ [])) (code_clear n file at first e₁) clear_g in
+          let clear_g = clear_append (code_causes n g) [] (code_clear n file at₁ second) tt in
+          let clear = clear_append (code_causes n f) (own_causes n (g ∷ [])) (code_clear n file at first) clear_g in
           sym (none_refuses (sheet_degree_cause n ∷ own_causes n (f ∷ g ∷ [])) (served []) (degree, clear))
 
-      pub both_read : {r : ReadHead} → HeadRead (coprime_head 1 n (f ∷ g ∷ [])) file at₂ r → HeadRead (parse_coprime today 1 n) file at r
+      pub both_read : {r : Result (CodeHead × ℕ) Refusal} → HeadRead (coprime_head 1 n (f ∷ g ∷ [])) file at₂ r
+          → HeadRead (parse_coprime today 1 n) file at r
       unfolding parse_coprime
       both_read h =
           let codes : List ℕ = f ∷ g ∷ [] in
           let checked = resume_barring (common_factors codes) codes (λ codes. pure (head_with 1 n codes)) (drop at₂ file) in
           record {
-            says = h.says ∙ sym (rw (f_told, g_told) checked);
+            says = h.says ∙ sym (rw (sym first.says, sym second.says) checked);
             inside = h.inside;
           }
 
-      pub three_read : {r : ReadHead} → HeadRead (third_code n f g) file at₂ r → HeadRead (parse_coprime today 2 n) file at r
+      pub three_read : {r : Result (CodeHead × ℕ) Refusal} → HeadRead (third_code n f g) file at₂ r
+          → HeadRead (parse_coprime today 2 n) file at r
       unfolding parse_coprime
       three_read h =
           record {
@@ -86,9 +75,9 @@ module _ (n : ℕ) (file : List ℕ) (at : ℕ) {r₁ : ReadNumber} (first : Rea
                 ∙ either (field limits64 (code_causes n) (drop at₂ file))
                 (λ third rest e.
                 let codes : List ℕ = f ∷ g ∷ third ∷ [] in
-                rw (f_told, g_told, e)
+                rw (sym first.says, sym second.says, e)
                 (sym (resume_barring (common_factors codes) codes (λ codes. pure (head_with 2 n codes)) rest)))
-                (λ k e. rw (f_told, g_told, e));
+                (λ k e. rw (sym first.says, sym second.says, e));
             inside = h.inside;
           }
 

@@ -5,4 +5,3 @@ pub mod Text
 pub mod Part
 pub mod Reading
 pub mod Heads
-pub mod LevelLists

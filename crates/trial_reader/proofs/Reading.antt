@@ -14,7 +14,7 @@ use Rattle.reply.specs.Numbers.{number_of}
 use Rattle.reply.specs.declared.Refusal.{Refusal}
 use Rattle.poly.proofs.Ranges.{inside}
 use Rattle.trial_reader.specs.declared.reader.Layout.{Layout}
-use Rattle.trial_reader.specs.declared.reader.ReadTrial.TheVariants.{Content, Refused as Unreadable}
+use Rattle.std.specs.Prelude.{Ok, Err}
 use Rattle.leb128.specs.Parser.{parsed, failed}
 use Rattle.trial.specs.Replies.{read}
 use Rattle.trial.proofs.Content.{version_is}
@@ -45,7 +45,7 @@ times_few v {count} e few = rw e (either (eqb v 1))
 
 module _ {file powers forces times : List ℕ} where
   pub refused_done : {why : Refusal} → read_into file powers forces times ≡ failed (number_of why)
-      → ReadDone file powers forces times (Unreadable why) powers forces times
+      → ReadDone file powers forces times (Err why) powers forces times
   refused_done e = record { reply = rw e; unused = tt; name = rw e; powers_after = rw e; forces_after = rw e; times_after = rw e }
 
   pub accepted_done : (layout : Layout) (powers_read forces_read times_read : List ℕ) {powers' forces' times' : List ℕ}
@@ -54,7 +54,7 @@ module _ {file powers forces times : List ℕ} where
       → powers' ≡ over (take layout.count powers_read) powers
       → forces' ≡ over (take layout.count forces_read) forces
       → times' ≡ over (take (cond (eqb layout.head.version 1) 0 layout.count) times_read) times
-      → ReadDone file powers forces times (Content (content_from layout)) powers' forces' times'
+      → ReadDone file powers forces times (Ok (content_from layout)) powers' forces' times'
   accepted_done layout powers_read forces_read times_read e here p q t =
       let enough : layout.size ≤ length (drop layout.name_at file) = rw length-drop (omega (arith, here.last)) in
       let size = length-take-le layout.size (drop layout.name_at file) enough in

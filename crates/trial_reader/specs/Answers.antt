@@ -1,36 +1,35 @@
 -- What the reader's calls promise: the reply of each answer, and what is left in lent memory.
-use Rattle.std.specs.Prelude.{◌≡◌, ℕ, ◌-◌, List, [], ◌∷◌, length, take, drop}
-use Rattle.reply.specs.Reply.{Reply, served, refused}
-use Rattle.reply.specs.Numbers.{number_of}
-use Rattle.trial_reader.specs.declared.reader.ReadTrial.{ReadTrial}
-use Rattle.trial_reader.specs.declared.reader.ReadTrial.TheVariants.{Content, Refused}
+use Rattle.std.specs.Prelude.{◌≡◌, ℕ, ◌-◌, List, [], ◌∷◌, Result, Ok, Err, length, take, drop}
+use Rattle.reply.specs.Reply.{Reply}
+use Rattle.reply.specs.declared.Refusal.{Refusal}
+use Rattle.reply.specs.Answers.{answer_reply}
+use Rattle.trial_reader.specs.declared.reader.Content.{Content}
 use Rattle.trial_reader.specs.declared.reader.Trial.{Trial}
 use Rattle.leb128.specs.Parser.{Parsed}
 use Rattle.trial.specs.Trial.{Trial as TrialContent}
 use Rattle.trial.specs.Replies.{read, read_reply, name_read, levels_after}
 
 -- Degree, f, g; where in the file the name starts and how long it is; the version and, in version 2, h. Or the number of the refusal.
-abbrev pub read_trial_reply : ReadTrial → Reply
-read_trial_reply (Content c) =
-    served (c.degree ∷ c.f ∷ c.g ∷ c.name_at ∷ c.size ∷ c.version ∷ take (c.version - 1) (c.h ∷ []))
-read_trial_reply (Refused why) = refused (number_of why)
+abbrev pub read_trial_reply : Result Content Refusal → Reply
+read_trial_reply =
+    answer_reply (λ c. c.degree ∷ c.f ∷ c.g ∷ c.name_at ∷ c.size ∷ c.version ∷ take (c.version - 1) (c.h ∷ []))
 
 -- In version 1 the place of h, of which the reply says nothing, holds 0.
-abbrev pub Unused : ReadTrial → Type 0
-Unused (Content c) = c.version ≡ 1 → c.h ≡ 0
-Unused (Refused why) = Unit
+abbrev pub Unused : Result Content Refusal → Type 0
+Unused (Ok c) = c.version ≡ 1 → c.h ≡ 0
+Unused (Err why) = Unit
 
 -- The part of a file that holds the name, by the reader's answer; empty where the file is refused.
-abbrev pub name_part : List ℕ → ReadTrial → List ℕ
-name_part file (Content c) = take c.size (drop c.name_at file)
-name_part file (Refused why) = []
+abbrev pub name_part : List ℕ → Result Content Refusal → List ℕ
+name_part file (Ok c) = take c.size (drop c.name_at file)
+name_part file (Err why) = []
 
 -- What reading a file gives, with these slices lent for the levels.
 abbrev pub read_into : List ℕ → List ℕ → List ℕ → List ℕ → Parsed TrialContent
 read_into file powers forces times = read (length powers ∷ length forces ∷ length times ∷ []) file
 
 -- `read`: its reply; that the part of the file that the reply points at is the name; and each slice afterwards.
-pub record ReadDone (file powers forces times : List ℕ) (r : ReadTrial) (powers' forces' times' : List ℕ) : Type 0 where
+pub record ReadDone (file powers forces times : List ℕ) (r : Result Content Refusal) (powers' forces' times' : List ℕ) : Type 0 where
   pub reply : read_trial_reply r ≡ read_reply (length file) (read_into file powers forces times)
   pub unused : Unused r
   pub name : name_part file r ≡ name_read (read_into file powers forces times)

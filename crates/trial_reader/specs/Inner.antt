@@ -1,20 +1,14 @@
 -- Only contracts of functions inside the crate use these definitions: their answers in the words of the parser, with a position of the file
 -- standing for the bytes from there on.
-use Rattle.std.specs.Prelude.{◌≡◌, ℕ, suc, ◌+◌, ◌≤◌, cond, List, [], ◌∷◌, length, take, drop}
+use Rattle.std.specs.Prelude.{◌≡◌, ℕ, suc, ◌+◌, ◌≤◌, cond, List, [], ◌∷◌, Result, Ok, Err, length, take, drop}
 use Rattle.levels.specs.Levels.{repeats}
 use Rattle.reply.specs.Numbers.{number_of}
-use Rattle.trial_reader.specs.declared.lists.Behind.{Behind}
-use Rattle.trial_reader.specs.declared.lists.Behind.TheVariants.{At, Refused as Impassable}
 use Rattle.trial_reader.specs.declared.lists.Decoded.{Decoded}
 use Rattle.trial_reader.specs.declared.fields.Head.{Head as CodeHead}
-use Rattle.trial_reader.specs.declared.fields.ReadHead.{ReadHead}
-use Rattle.trial_reader.specs.declared.fields.ReadHead.TheVariants.{Found, Refused as Unread}
-use Rattle.trial_reader.specs.declared.names.ReadName.{ReadName}
-use Rattle.trial_reader.specs.declared.names.ReadName.TheVariants.{Found as FoundName, Refused as Nameless}
+use Rattle.trial_reader.specs.declared.names.NamePlace.{NamePlace}
 use Rattle.trial_reader.specs.declared.reader.Layout.{Layout}
-use Rattle.trial_reader.specs.declared.reader.Verdict.{Verdict}
-use Rattle.trial_reader.specs.declared.reader.Verdict.TheVariants.{Accepted, Refused as Unaccepted}
 use Rattle.trial_reader.specs.declared.reader.Content.{Content}
+use Rattle.reply.specs.declared.Refusal.{Refusal}
 use Rattle.poly.specs.Causes.{code_causes, common_factors}
 use Rattle.leb128.specs.Parser.{Parsed, parsed, failed, Parser, pure, ◌>>=◌, barring, parse_end}
 use Rattle.leb128.specs.Number.{limits64, field}
@@ -41,30 +35,30 @@ pub record Versioned (head : CodeHead) : Type 0 where
   pub unused : head.version ≡ 1 → head.h ≡ 0
 
 -- The same and the bytes behind them.
-abbrev pub head_parsed : List ℕ → ReadHead → Parsed Head
-head_parsed file (Found head next) = parsed (head_of head) (drop next file)
-head_parsed file (Unread why) = failed (number_of why)
+abbrev pub head_parsed : List ℕ → Result (CodeHead × ℕ) Refusal → Parsed Head
+head_parsed file (Ok (head, next)) = parsed (head_of head) (drop next file)
+head_parsed file (Err why) = failed (number_of why)
 
-abbrev pub HeadInside : List ℕ → ReadHead → Type 0
-HeadInside file (Found head next) = (next ≤ length file) × Versioned head
-HeadInside file (Unread why) = Unit
+abbrev pub HeadInside : List ℕ → Result (CodeHead × ℕ) Refusal → Type 0
+HeadInside file (Ok (head, next)) = (next ≤ length file) × Versioned head
+HeadInside file (Err why) = Unit
 
 -- The answer is what the parser of a head gives at the position.
-pub record HeadRead (parser : Parser Head) (file : List ℕ) (at : ℕ) (r : ReadHead) : Type 0 where
+pub record HeadRead (parser : Parser Head) (file : List ℕ) (at : ℕ) (r : Result (CodeHead × ℕ) Refusal) : Type 0 where
   pub says : head_parsed file r ≡ parser (drop at file)
   pub inside : HeadInside file r
 
 -- A list of levels, read to the front of a slice, and the bytes behind it.
-abbrev pub list_parsed : List ℕ → ℕ → List ℕ → Behind → Parsed (List ℕ)
-list_parsed file count out (At next) = parsed (take count out) (drop next file)
-list_parsed file count out (Impassable why) = failed (number_of why)
+abbrev pub list_parsed : List ℕ → ℕ → List ℕ → Result ℕ Refusal → Parsed (List ℕ)
+list_parsed file count out (Ok next) = parsed (take count out) (drop next file)
+list_parsed file count out (Err why) = failed (number_of why)
 
-abbrev pub ListInside : List ℕ → Behind → Type 0
-ListInside file (At next) = next ≤ length file
-ListInside file (Impassable why) = Unit
+abbrev pub ListInside : List ℕ → Result ℕ Refusal → Type 0
+ListInside file (Ok next) = next ≤ length file
+ListInside file (Err why) = Unit
 
 -- The answer, with the slice afterwards, is what the parser of so many levels gives at the position.
-pub record ListRead (file : List ℕ) (at count : ℕ) (r : Behind) (out : List ℕ) : Type 0 where
+pub record ListRead (file : List ℕ) (at count : ℕ) (r : Result ℕ Refusal) (out : List ℕ) : Type 0 where
   pub says : list_parsed file count out r ≡ parse_levels today count [] (drop at file)
   pub inside : ListInside file r
 
@@ -72,12 +66,12 @@ pub record ListRead (file : List ℕ) (at count : ℕ) (r : Behind) (out : List 
 abbrev pub lists_at : ℕ → ℕ → List ℕ → List ℕ → List ℕ → List (List ℕ)
 lists_at v count powers forces times = take (suc v) (take count powers ∷ take count forces ∷ take count times ∷ [])
 
-abbrev pub lists_parsed : List ℕ → List (List ℕ) → Behind → Parsed (List (List ℕ))
-lists_parsed file lists (At next) = parsed lists (drop next file)
-lists_parsed file lists (Impassable why) = failed (number_of why)
+abbrev pub lists_parsed : List ℕ → List (List ℕ) → Result ℕ Refusal → Parsed (List (List ℕ))
+lists_parsed file lists (Ok next) = parsed lists (drop next file)
+lists_parsed file lists (Err why) = failed (number_of why)
 
 -- The answer, with the three slices afterwards, is what the parser of the lists gives at the position.
-pub record ListsRead (file : List ℕ) (at v count : ℕ) (r : Behind) (powers forces times : List ℕ) : Type 0 where
+pub record ListsRead (file : List ℕ) (at v count : ℕ) (r : Result ℕ Refusal) (powers forces times : List ℕ) : Type 0 where
   pub says : lists_parsed file (lists_at v count powers forces times) r ≡ parse_lists today count (suc v) (drop at file)
   pub inside : ListInside file r
 
@@ -90,16 +84,16 @@ pub record Decodes (file : List ℕ) (at count : ℕ) (r : Decoded) (out : List 
   pub inside : ListInside file r.behind
 
 -- The name and that nothing stands behind it.
-abbrev pub name_parsed : List ℕ → ReadName → Parsed (List ℕ)
-name_parsed file (FoundName start size) = parsed (take size (drop start file)) []
-name_parsed file (Nameless why) = failed (number_of why)
+abbrev pub name_parsed : List ℕ → Result NamePlace Refusal → Parsed (List ℕ)
+name_parsed file (Ok place) = parsed (take place.size (drop place.start file)) []
+name_parsed file (Err why) = failed (number_of why)
 
 -- The name reaches to the end of the file.
-abbrev pub NameInside : List ℕ → ReadName → Type 0
-NameInside file (FoundName start size) = start + size ≡ length file
-NameInside file (Nameless why) = Unit
+abbrev pub NameInside : List ℕ → Result NamePlace Refusal → Type 0
+NameInside file (Ok place) = place.start + place.size ≡ length file
+NameInside file (Err why) = Unit
 
-pub record NameRead (file : List ℕ) (at : ℕ) (r : ReadName) : Type 0 where
+pub record NameRead (file : List ℕ) (at : ℕ) (r : Result NamePlace Refusal) : Type 0 where
   pub says : name_parsed file r ≡ (parse_name today >>= parse_end) (drop at file)
   pub inside : NameInside file r
 
@@ -113,9 +107,9 @@ content_of file powers forces times layout =
       name = take layout.size (drop layout.name_at file);
     }
 
-abbrev pub trial_parsed : List ℕ → List ℕ → List ℕ → List ℕ → Verdict → Parsed Trial
-trial_parsed file powers forces times (Accepted layout) = parsed (content_of file powers forces times layout) []
-trial_parsed file powers forces times (Unaccepted why) = failed (number_of why)
+abbrev pub trial_parsed : List ℕ → List ℕ → List ℕ → List ℕ → Result Layout Refusal → Parsed Trial
+trial_parsed file powers forces times (Ok layout) = parsed (content_of file powers forces times layout) []
+trial_parsed file powers forces times (Err why) = failed (number_of why)
 
 -- No list is longer than 64, the name reaches to the end of the file, and the version is one of the two.
 pub record LayoutInside (file : List ℕ) (layout : Layout) : Type 0 where
@@ -123,12 +117,12 @@ pub record LayoutInside (file : List ℕ) (layout : Layout) : Type 0 where
   pub last : layout.name_at + layout.size ≡ length file
   pub versioned : Versioned layout.head
 
-abbrev pub TrialInside : List ℕ → Verdict → Type 0
-TrialInside file (Accepted layout) = LayoutInside file layout
-TrialInside file (Unaccepted why) = Unit
+abbrev pub TrialInside : List ℕ → Result Layout Refusal → Type 0
+TrialInside file (Ok layout) = LayoutInside file layout
+TrialInside file (Err why) = Unit
 
 -- The answer, with the slices afterwards, is what the parser of a content gives at the position.
-pub record Surveys (parser : Parser Trial) (file : List ℕ) (at : ℕ) (r : Verdict) (powers forces times : List ℕ) : Type 0 where
+pub record Surveys (parser : Parser Trial) (file : List ℕ) (at : ℕ) (r : Result Layout Refusal) (powers forces times : List ℕ) : Type 0 where
   pub says : trial_parsed file powers forces times r ≡ parser (drop at file)
   pub inside : TrialInside file r
 

@@ -7,4 +7,4 @@ mod names;
 mod reader;
 mod short;
 
-pub use reader::{Content, ReadTrial, Trial, name_part, open, read};
+pub use reader::{Content, Trial, name_part, open, read};

@@ -2,36 +2,30 @@
 ghost use Rattle.trial_reader.specs.Inner.{NameRead};
 
 use crate::fields::size_field;
-use leb128::ReadNumber;
 use reply::Refusal;
 use trial::printable;
 
-// Where the name is in the file, or what it is refused for.
+// Where the name is in the file.
 #[derive(Clone, Copy)]
-pub(crate) enum ReadName {
-    Found { start: usize, size: usize },
-    Refused(Refusal),
+pub(crate) struct NamePlace {
+    pub start: usize,
+    pub size: usize,
 }
 
 // The name whose size stands at a position of the file, with nothing behind it.
-pub(crate) fn read_name(file: &[u8], at: usize) -> ReadName
+pub(crate) fn read_name(file: &[u8], at: usize) -> Result<NamePlace, Refusal>
     ensures { NameRead file.now at result }
 {
-    match size_field(file, at) {
-        ReadNumber::Refused(why) => ReadName::Refused(why),
-        ReadNumber::Value(count, start) => {
-            let size = count as usize;
-            if file.len() - start < size {
-                return ReadName::Refused(Refusal::FileEnds);
-            }
-            let end = start + size;
-            if !printable(&file[start..end]) {
-                return ReadName::Refused(Refusal::NameByte);
-            }
-            if end < file.len() {
-                return ReadName::Refused(Refusal::TrailingBytes);
-            }
-            ReadName::Found { start, size }
-        }
+    let (size, start) = size_field(file, at)?;
+    if file.len() - start < size {
+        return Err(Refusal::FileEnds);
     }
+    let end = start + size;
+    if !printable(&file[start..end]) {
+        return Err(Refusal::NameByte);
+    }
+    if end < file.len() {
+        return Err(Refusal::TrailingBytes);
+    }
+    Ok(NamePlace { start, size })
 }

@@ -6,10 +6,10 @@ ghost use Rattle.trial.specs.Trial.{parse_body, parse};
 ghost use Rattle.trial_reader.specs.Inner.{head_of, Versioned, Surveys, content_from};
 ghost use Rattle.trial_reader.specs.Answers.{ReadDone, name_part, Opens};
 
-use crate::fields::{Head, ReadHead, read_head};
-use crate::lists::{Behind, copy_levels, read_lists};
-use crate::names::{ReadName, read_name};
-use poly::{Count, Degree};
+use crate::fields::{Head, read_head};
+use crate::lists::{copy_levels, read_lists};
+use crate::names::read_name;
+use poly::Degree;
 use reply::Refusal;
 
 // An accepted file but for its levels: its head, how many levels a list has, and where the name is.
@@ -21,27 +21,19 @@ struct Layout {
     pub size: usize,
 }
 
-#[derive(Clone, Copy)]
-enum Verdict {
-    Accepted(Layout),
-    Refused(Refusal),
-}
-
 // The whole decision on a file, with the levels of an accepted one at the front of the slices.
-fn survey(file: &[u8], powers: &mut [u16], forces: &mut [u16], times: &mut [u16]) -> Verdict
+fn survey(
+    file: &[u8],
+    powers: &mut [u16],
+    forces: &mut [u16],
+    times: &mut [u16],
+) -> Result<Layout, Refusal>
     requires { (64 ≤ length powers.old) × (64 ≤ length forces.old) × (64 ≤ length times.old) }
     ensures { Surveys parse file.now 0 result powers.new forces.new times.new }
 {
-    match read_head(file) {
-        ReadHead::Refused(why) => Verdict::Refused(why),
-        ReadHead::Found(head, at) => {
-            let n = head.degree;
-            let Count::Is(order) = (Degree { n }).order() else {
-                return Verdict::Refused(Refusal::SheetDegree);
-            };
-            survey_body(file, head, order as usize, at, powers, forces, times)
-        }
-    }
+    let (head, at) = read_head(file)?;
+    let order = (Degree { n: head.degree }).order()?;
+    survey_body(file, head, order as usize, at, powers, forces, times)
 }
 
 // The same behind the head, with so many levels to a list.
@@ -53,25 +45,21 @@ fn survey_body(
     powers: &mut [u16],
     forces: &mut [u16],
     times: &mut [u16],
-) -> Verdict
+) -> Result<Layout, Refusal>
     requires count_value { (count ≡ 2 ^ head.degree) × (count ≤ 64) × (at ≤ length file.now) }
     requires versioned { Versioned head }
     requires in_bounds { (64 ≤ length powers.old) × (64 ≤ length forces.old) × (64 ≤ length times.old) }
     ensures { Surveys (parse_body today (head_of head)) file.now at result
         powers.new forces.new times.new }
 {
-    match read_lists(file, at, head.version, count, powers, forces, times) {
-        Behind::Refused(why) => Verdict::Refused(why),
-        Behind::At(at) => match read_name(file, at) {
-            ReadName::Refused(why) => Verdict::Refused(why),
-            ReadName::Found { start, size } => Verdict::Accepted(Layout {
-                head,
-                count,
-                name_at: start,
-                size,
-            }),
-        },
-    }
+    let at = read_lists(file, at, head.version, count, powers, forces, times)?;
+    let name = read_name(file, at)?;
+    Ok(Layout {
+        head,
+        count,
+        name_at: name.start,
+        size: name.size,
+    })
 }
 
 // The content of a file but for its levels: the degree, the codes, where the name is in the file, and the version. In version 1 h is 0.
@@ -86,12 +74,6 @@ pub struct Content {
     pub h: u32,
 }
 
-#[derive(Clone, Copy)]
-pub enum ReadTrial {
-    Content(Content),
-    Refused(Refusal),
-}
-
 // How many levels the third list has.
 fn times_count(version: u32, count: usize) -> usize
     ensures { result ≡ cond (eqb version 1) 0 count }
@@ -103,32 +85,36 @@ fn times_count(version: u32, count: usize) -> usize
 }
 
 // Reads a file, with its levels into the slices; version 1 leaves the third as it is.
-pub fn read(file: &[u8], powers: &mut [u16], forces: &mut [u16], times: &mut [u16]) -> ReadTrial
+pub fn read(
+    file: &[u8],
+    powers: &mut [u16],
+    forces: &mut [u16],
+    times: &mut [u16],
+) -> Result<Content, Refusal>
     ensures { ReadDone file.now powers.old forces.old times.old result
         powers.new forces.new times.new }
 {
     if powers.len() < 64 {
-        return ReadTrial::Refused(Refusal::SliceLength);
+        return Err(Refusal::SliceLength);
     }
     if forces.len() < 64 {
-        return ReadTrial::Refused(Refusal::SliceLength);
+        return Err(Refusal::SliceLength);
     }
     if times.len() < 64 {
-        return ReadTrial::Refused(Refusal::SliceLength);
+        return Err(Refusal::SliceLength);
     }
     let mut powers_read = [0u16; 64];
     let mut forces_read = [0u16; 64];
     let mut times_read = [0u16; 64];
-    match survey(file, &mut powers_read, &mut forces_read, &mut times_read) {
-        Verdict::Refused(why) => ReadTrial::Refused(why),
-        Verdict::Accepted(layout) => {
-            copy_levels(&powers_read, layout.count, powers);
-            copy_levels(&forces_read, layout.count, forces);
-            let head = layout.head;
-            copy_levels(&times_read, times_count(head.version, layout.count), times);
-            ReadTrial::Content(content_of(layout))
-        }
-    }
+    let layout = survey(file, &mut powers_read, &mut forces_read, &mut times_read)?;
+    copy_levels(&powers_read, layout.count, powers);
+    copy_levels(&forces_read, layout.count, forces);
+    copy_levels(
+        &times_read,
+        times_count(layout.head.version, layout.count),
+        times,
+    );
+    Ok(content_of(layout))
 }
 
 // What the reader gives of an accepted file beside the levels.
@@ -148,30 +134,28 @@ fn content_of(layout: Layout) -> Content
 }
 
 // The part of a file that holds the name, where the reader's answer says; empty where the file was refused.
-pub fn name_part<'a>(file: &'a [u8], answer: ReadTrial) -> &'a [u8]
+pub fn name_part<'a>(file: &'a [u8], answer: Result<Content, Refusal>) -> &'a [u8]
     ensures { result.now ≡ name_part file.now answer }
 {
-    match answer {
-        ReadTrial::Refused(_) => return &file[..0],
-        ReadTrial::Content(content) => {
-            let start = content.name_at;
-            let size = content.size;
-            if file.len() < start {
-                return &file[..0];
-            }
-            if file.len() - start < size {
-                return &file[start..];
-            }
-            let end = start + size;
-            return &file[start..end];
-        }
+    let Ok(content) = answer else {
+        return &file[..0];
+    };
+    let start = content.name_at;
+    let size = content.size;
+    if file.len() < start {
+        return &file[..0];
     }
+    if file.len() - start < size {
+        return &file[start..];
+    }
+    let end = start + size;
+    &file[start..end]
 }
 
 // What became of a file: the answer, and the name as the part of the file that holds it, empty where the file was refused.
 #[derive(Clone, Copy)]
 pub struct Trial<'a> {
-    pub answer: ReadTrial,
+    pub answer: Result<Content, Refusal>,
     pub name: &'a [u8],
 }
 

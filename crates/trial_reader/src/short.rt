@@ -4,7 +4,7 @@ ghost use Rattle.std.specs.Prelude.{◌≡◌};
 ghost use Rattle.leb128.specs.Number.{number};
 ghost use Rattle.leb128.specs.Reading.{Reads};
 
-use leb128::{ReadNumber, read_number};
+use leb128::read_number;
 use reply::Refusal;
 
 fn wide(byte: u8) -> u64
@@ -14,49 +14,49 @@ fn wide(byte: u8) -> u64
 }
 
 // One byte is read here: no field but a level accepts a number that takes more.
-pub(crate) fn read_small(file: &[u8], at: usize) -> ReadNumber
+pub(crate) fn read_small(file: &[u8], at: usize) -> Result<(u64, usize), Refusal>
     ensures { Reads number file.now at result }
 {
     if file.len() <= at {
-        return ReadNumber::Refused(Refusal::FileEnds);
+        return Err(Refusal::FileEnds);
     }
     let byte = wide(file[at]);
     if byte < 128 {
-        return ReadNumber::Value(byte, at + 1);
+        return Ok((byte, at + 1));
     }
     read_number(file, at)
 }
 
 // Three bytes are read here, the most that an accepted level takes.
-pub(crate) fn read_level(file: &[u8], at: usize) -> ReadNumber
+pub(crate) fn read_level(file: &[u8], at: usize) -> Result<(u64, usize), Refusal>
     ensures { Reads number file.now at result }
 {
     if file.len() <= at {
-        return ReadNumber::Refused(Refusal::FileEnds);
+        return Err(Refusal::FileEnds);
     }
     let first = wide(file[at]);
     if first < 128 {
-        return ReadNumber::Value(first, at + 1);
+        return Ok((first, at + 1));
     }
     if file.len() <= at + 1 {
-        return ReadNumber::Refused(Refusal::FileEnds);
+        return Err(Refusal::FileEnds);
     }
     let second = wide(file[at + 1]);
     if second == 0 {
-        return ReadNumber::Refused(Refusal::NumberForm);
+        return Err(Refusal::NumberForm);
     }
     if second < 128 {
-        return ReadNumber::Value(first % 128 + 128 * second, at + 2);
+        return Ok((first % 128 + 128 * second, at + 2));
     }
     if file.len() <= at + 2 {
-        return ReadNumber::Refused(Refusal::FileEnds);
+        return Err(Refusal::FileEnds);
     }
     let third = wide(file[at + 2]);
     if third == 0 {
-        return ReadNumber::Refused(Refusal::NumberForm);
+        return Err(Refusal::NumberForm);
     }
     if third < 128 {
-        return ReadNumber::Value(first % 128 + 128 * (second % 128 + 128 * third), at + 3);
+        return Ok((first % 128 + 128 * (second % 128 + 128 * third), at + 3));
     }
     read_number(file, at)
 }

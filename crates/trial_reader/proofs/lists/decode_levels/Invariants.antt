@@ -1,10 +1,6 @@
 -- `decode_levels` meets its contract: the levels passed are at the front of the slice.
-use Prim.Native.Nat.{◌-◌}
 use Rattle.trial_reader.proofs.Passes.{Storing}
 use Rattle.trial_reader.proofs.lists.decode_levels.Given as goal
 
 abbrev pub invariant-loop-i : goal.invariant-loop-i
 invariant-loop-i l = Storing l.file l.at l.count l.initial.out l.out l.next l.i
-
-abbrev pub decreases-loop-i : goal.decreases-loop-i
-decreases-loop-i l = l.count - l.i

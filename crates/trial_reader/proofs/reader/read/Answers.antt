@@ -1,6 +1,7 @@
 -- `read` meets its contract: the survey decides, and where it accepts, what is copied is the parsed lists.
 use mathlib.Core.Path.{◌≡◌, sym, ◌∙◌}
 use native.Mathlib.Omega.{arith}
+use Rattle.std.proofs.lemmas.Result.{err_from_is_err_and}
 use mathlib.Core.List.{List, [], ◌∷◌}
 use Prim.Native.Nat.{ℕ, ◌≤◌}
 use lib.ListN.{length}
@@ -35,35 +36,28 @@ room file powers forces times p q r =
     parses (length powers ∷ length forces ∷ length times ∷ []) file (p, (q, (r, tt)))
 
 pub copy_levels-requires : goal.copy_levels-requires
-copy_levels-requires c =
-    let said = rw c.in-Accepted.is at c.survey.ensures in
-    let few = said.inside.few in
+copy_levels-requires c = let few = c.in_ok-layout.ensures.inside.few in (omega arith, omega arith)
+
+pub copy_levels-requires-2 : goal.copy_levels-requires-2
+copy_levels-requires-2 c = let few = c.in_ok-layout.ensures.inside.few in (omega arith, omega arith)
+
+pub copy_levels-requires-3 : goal.copy_levels-requires-3
+copy_levels-requires-3 c =
+    let most = times_few c.in_ok-layout.layout.head.version c.times_count.ensures c.in_ok-layout.ensures.inside.few in
     (omega arith, omega arith)
 
-pub copy_levels-requires-in-Accepted : goal.copy_levels-requires-in-Accepted
-copy_levels-requires-in-Accepted c =
-    let said = rw c.in-Accepted.is at c.survey.ensures in
-    let few = said.inside.few in
-    (omega arith, omega arith)
-
-pub copy_levels-requires-in-Accepted-2 : goal.copy_levels-requires-in-Accepted-2
-copy_levels-requires-in-Accepted-2 c =
-    let said = rw c.in-Accepted.is at c.survey.ensures in
-    let most = times_few c.in-Accepted.layout.head.version c.times_count.ensures said.inside.few in
-    (omega arith, omega arith)
-
-pub returns-in-Refused : goal.returns-in-Refused
-returns-in-Refused c =
+pub returns-in_err-layout : goal.returns-in_err-layout
+returns-in_err-layout c =
     let a = c.args in
-    let refused = rw c.in-Refused.is at c.survey.ensures in
-    refused_done (room a.file.now a.powers.now a.forces.now a.times.now c.if-powers-lt64.false c.if-forces-lt64.false c.if-times-lt64.false ∙ sym refused.says)
+    let p = err_from_is_err_and c.from_residual.result c.from_residual.ensures.1 in
+    let long = room a.file.now a.powers.now a.forces.now a.times.now c.if-powers-lt64.false c.if-forces-lt64.false c.if-times-lt64.false in
+    rw (p.1, p.2) (refused_done (long ∙ sym c.in_err-layout.ensures.says))
 
-pub returns-in-Accepted : goal.returns-in-Accepted
-returns-in-Accepted c =
+pub returns : goal.returns
+returns c =
     let a = c.args in
-    let said = rw c.in-Accepted.is at c.survey.ensures in
-    let times = rw c.times_count.ensures at c.copy_levels-in-Accepted-2.ensures in
+    let said = c.in_ok-layout.ensures in
+    let times = rw c.times_count.ensures at c.copy_levels-3.ensures in
     let long = room a.file.now a.powers.now a.forces.now a.times.now c.if-powers-lt64.false c.if-forces-lt64.false c.if-times-lt64.false in
     rw c.content_of.ensures
-    (accepted_done c.in-Accepted.layout _ _ _ (long ∙ sym said.says)
-    said.inside c.copy_levels.ensures c.copy_levels-in-Accepted.ensures times)
+    (accepted_done c.in_ok-layout.layout _ _ _ (long ∙ sym said.says) said.inside c.copy_levels.ensures c.copy_levels-2.ensures times)
