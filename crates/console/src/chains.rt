@@ -4,9 +4,6 @@ ghost use Rattle.console.specs.Status.{status, value};
 ghost use Rattle.euclid.specs.Replies.{chain_reply, chain_content};
 ghost use Rattle.longest.specs.Replies.{longest_reply};
 
-use euclid::Chained;
-use longest::Reach;
-
 // The quotients of f and g, into a slice of at least 32 numbers, with their count and the greatest common divisor.
 #[unsafe(no_mangle)]
 pub extern "C" fn dw_chain(
@@ -22,17 +19,13 @@ pub extern "C" fn dw_chain(
     ensures count_after { count.new ≡ value 0 (chain_reply n f g (length out.old)) count.old }
     ensures divisor_after { divisor.new ≡ value 1 (chain_reply n f g (length out.old)) divisor.old }
 {
-    let answer = euclid::quotients(n, f, g, out);
-    match answer {
-        Chained::Refused(refusal) => refusal.number(),
-        Chained::Quotients {
-            count: many,
-            divisor: common,
-        } => {
-            *count = many;
-            *divisor = common;
+    match euclid::quotients(n, f, g, out) {
+        Ok(chain) => {
+            *count = chain.count;
+            *divisor = chain.divisor;
             0
         }
+        Err(refusal) => refusal.number(),
     }
 }
 
@@ -43,20 +36,16 @@ pub extern "C" fn dw_longest_chains(n: u32, count: &mut u64, first: &mut u64) ->
     ensures count_after { count.new ≡ value 0 (longest_reply n) count.old }
     ensures first_after { first.new ≡ value 1 (longest_reply n) first.old }
 {
-    let answer = longest::longest_chains(n);
-    match answer {
-        Reach::Refused(refusal) => refusal.number(),
-        Reach::Nowhere => {
+    match longest::longest_chains(n) {
+        Ok(Some(reach)) => {
+            *count = reach.count;
+            *first = reach.first;
+            0
+        }
+        Ok(None) => {
             *count = 0;
             0
         }
-        Reach::From {
-            count: positions,
-            first: earliest,
-        } => {
-            *count = positions;
-            *first = earliest;
-            0
-        }
+        Err(refusal) => refusal.number(),
     }
 }

@@ -2,6 +2,7 @@
 // pointer changes only where the call is served.
 #![tactic(auto)]
 
+mod answers;
 mod chains;
 mod files;
 mod lists;

@@ -2,18 +2,15 @@
 ghost use Rattle.std.specs.Prelude.{◌≡◌, length};
 ghost use Rattle.console.specs.Status.{status, value};
 ghost use Rattle.poly.specs.Replies.{length_reply};
-ghost use Rattle.pairs.specs.Replies.{found_reply, pair_at_reply};
+ghost use Rattle.pairs.specs.Replies.{pair_at_reply};
 ghost use Rattle.positions.specs.Replies.{position_reply};
 ghost use Rattle.unordered.specs.Replies.{unordered_reply};
 ghost use Rattle.triples.specs.Replies.{triple_at_reply};
 ghost use Rattle.listing.specs.Replies.{from_reply, from_content};
 
 use crate::SPENT;
-use listing::Filled;
-use pairs::Found;
-use poly::{Count, Degree};
-use positions::Place;
-use triples::Entry;
+use crate::answers::{store, store_pair};
+use poly::Degree;
 
 // The length of the list of degree n.
 #[unsafe(no_mangle)]
@@ -21,30 +18,7 @@ pub extern "C" fn dw_length(n: u32, pairs: &mut u64) -> u32
     ensures value { result ≡ status (length_reply n) }
     ensures pairs_after { pairs.new ≡ value 0 (length_reply n) pairs.old }
 {
-    let answer = (Degree { n }).list_length();
-    match answer {
-        Count::Refused(refusal) => refusal.number(),
-        Count::Is(number) => {
-            *pairs = number;
-            0
-        }
-    }
-}
-
-// The status of this answer; if it is a pair, its codes are stored in f and g.
-fn passed_on(answer: Found, f: &mut u32, g: &mut u32) -> u32
-    ensures value { result ≡ status (found_reply answer) }
-    ensures f_after { f.new ≡ value 0 (found_reply answer) f.old }
-    ensures g_after { g.new ≡ value 1 (found_reply answer) g.old }
-{
-    match answer {
-        Found::Refused(refusal) => refusal.number(),
-        Found::Codes(first, second) => {
-            *f = first;
-            *g = second;
-            0
-        }
-    }
+    store((Degree { n }).list_length(), pairs)
 }
 
 // The pair at a position of the list of degree n.
@@ -54,8 +28,7 @@ pub extern "C" fn dw_pair_at(n: u32, position: u64, f: &mut u32, g: &mut u32) ->
     ensures f_after { f.new ≡ value 0 (pair_at_reply n position) f.old }
     ensures g_after { g.new ≡ value 1 (pair_at_reply n position) g.old }
 {
-    let answer = pairs::pair_at(n, position);
-    passed_on(answer, f, g)
+    store_pair(pairs::pair_at(n, position), f, g)
 }
 
 // The pair at an entry of the second list of degree n, in which each unordered pair stands once.
@@ -65,8 +38,7 @@ pub extern "C" fn dw_unordered_pair_at(n: u32, entry: u64, f: &mut u32, g: &mut 
     ensures f_after { f.new ≡ value 0 (unordered_reply n entry) f.old }
     ensures g_after { g.new ≡ value 1 (unordered_reply n entry) g.old }
 {
-    let found = unordered::pair_at(n, entry);
-    passed_on(found, f, g)
+    store_pair(unordered::pair_at(n, entry), f, g)
 }
 
 // The pairs from a position of the list of degree n on, f and g in turn, as many as fit into the slice; with their count.
@@ -76,14 +48,7 @@ pub extern "C" fn dw_pairs_from(n: u32, position: u64, out: &mut [u32], count: &
     ensures out_after { out.new ≡ from_content n position out.old }
     ensures count_after { count.new ≡ value 0 (from_reply n position (length out.old)) count.old }
 {
-    let answer = listing::pairs_from(n, position, out);
-    match answer {
-        Filled::Refused(refusal) => refusal.number(),
-        Filled::Pairs(written) => {
-            *count = written;
-            0
-        }
-    }
+    store(listing::pairs_from(n, position, out), count)
 }
 
 // The position of a pair in the list of degree n.
@@ -92,14 +57,7 @@ pub extern "C" fn dw_position_of(n: u32, f: u32, g: u32, position: &mut u64) -> 
     ensures value { result ≡ status (position_reply n f g) }
     ensures position_after { position.new ≡ value 0 (position_reply n f g) position.old }
 {
-    let answer = positions::position_of(n, f, g);
-    match answer {
-        Place::Refused(refusal) => refusal.number(),
-        Place::At(place) => {
-            *position = place;
-            0
-        }
-    }
+    store(positions::position_of(n, f, g), position)
 }
 
 // The triple at a position of the list of all triples of degree n.
@@ -110,15 +68,14 @@ pub extern "C" fn dw_triple_at(n: u32, position: u64, f: &mut u32, g: &mut u32, 
     ensures g_after { g.new ≡ value 1 (triple_at_reply n position) g.old }
     ensures h_after { h.new ≡ value 2 (triple_at_reply n position) h.old }
 {
-    let answer = triples::triple_at(n, position);
-    match answer {
-        Entry::Refused(refusal) => refusal.number(),
-        Entry::Spent => SPENT,
-        Entry::Codes(first, second, third) => {
-            *f = first;
-            *g = second;
-            *h = third;
+    match triples::triple_at(n, position) {
+        Ok(Some(triple)) => {
+            *f = triple.f;
+            *g = triple.g;
+            *h = triple.h;
             0
         }
+        Ok(None) => SPENT,
+        Err(refusal) => refusal.number(),
     }
 }

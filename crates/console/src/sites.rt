@@ -4,8 +4,7 @@ ghost use Rattle.console.specs.Status.{status, value};
 ghost use Rattle.squares.specs.Replies.{site_reply, sheet_reply, sheet_bytes, sheet3_reply, sheet3_bytes};
 ghost use Rattle.sheets.specs.Replies.{check_sheet_reply};
 
-use poly::Checked;
-use squares::{Laid, Symbols};
+use crate::answers::status;
 
 // Both symbols at a site.
 #[unsafe(no_mangle)]
@@ -22,14 +21,13 @@ pub extern "C" fn dw_site(
     ensures first_after { first.new ≡ value 0 (site_reply n f g row col) first.old }
     ensures second_after { second.new ≡ value 1 (site_reply n f g row col) second.old }
 {
-    let answer = squares::site(n, f, g, row, col);
-    match answer {
-        Symbols::Refused(refusal) => refusal.number(),
-        Symbols::Both(of_f, of_g) => {
-            *first = of_f;
-            *second = of_g;
+    match squares::site(n, f, g, row, col) {
+        Ok(symbols) => {
+            *first = symbols.first;
+            *second = symbols.second;
             0
         }
+        Err(refusal) => refusal.number(),
     }
 }
 
@@ -39,11 +37,7 @@ pub extern "C" fn dw_sheet(n: u32, f: u32, g: u32, out: &mut [u8]) -> u32
     ensures value { result ≡ status (sheet_reply n f g (length out.old)) }
     ensures out_after { out.new ≡ sheet_bytes n f g out.old }
 {
-    let answer = squares::sheet(n, f, g, out);
-    match answer {
-        Laid::Refused(refusal) => refusal.number(),
-        Laid::Done => 0,
-    }
+    status(squares::sheet(n, f, g, out))
 }
 
 // The sheet of f, g and h, into the first 3 × 4^n bytes lent.
@@ -52,11 +46,7 @@ pub extern "C" fn dw_sheet3(n: u32, f: u32, g: u32, h: u32, out: &mut [u8]) -> u
     ensures value { result ≡ status (sheet3_reply n f g h (length out.old)) }
     ensures out_after { out.new ≡ sheet3_bytes n f g h out.old }
 {
-    let answer = squares::sheet3(n, f, g, h, out);
-    match answer {
-        Laid::Refused(refusal) => refusal.number(),
-        Laid::Done => 0,
-    }
+    status(squares::sheet3(n, f, g, h, out))
 }
 
 // Whether a sheet of any order from 3 to 64 is two orthogonal Latin squares laid together.
@@ -64,9 +54,5 @@ pub extern "C" fn dw_sheet3(n: u32, f: u32, g: u32, h: u32, out: &mut [u8]) -> u
 pub extern "C" fn dw_check_sheet(order: u32, sheet: &[u8]) -> u32
     ensures { result ≡ status (check_sheet_reply order sheet.now) }
 {
-    let answer = sheets::check_sheet(order, sheet);
-    match answer {
-        Checked::Refused(refusal) => refusal.number(),
-        Checked::Passed => 0,
-    }
+    status(sheets::check_sheet(order, sheet))
 }
