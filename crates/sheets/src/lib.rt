@@ -8,45 +8,37 @@ ghost use Rattle.sheets.specs.Counting.{all_below, is_graeco_latin};
 ghost use Rattle.sheets.specs.Replies.{check_sheet_reply};
 ghost use Rattle.sheets.specs.Inner.{InRange, Singles, row_permutes, by_turns, all_full, added, pairs_put};
 
-use poly::Checked;
 use reply::Refusal;
 
 // The check of a sheet of an order from 3 to 64, two bytes a site, row by row. Bytes behind it are not looked at.
-pub fn check_sheet(order: u32, sheet: &[u8]) -> Checked
+pub fn check_sheet(order: u32, sheet: &[u8]) -> Result<(), Refusal>
     ensures { checked_reply result ≡ check_sheet_reply order sheet.now }
 {
-    if order < 3 {
-        return Checked::Refused(Refusal::OrderRange);
-    }
-    if 64 < order {
-        return Checked::Refused(Refusal::OrderRange);
+    if !(3..=64).contains(&order) {
+        return Err(Refusal::OrderRange);
     }
     let side = order as usize;
     let size = 2 * (side * side);
     if sheet.len() < size {
-        return Checked::Refused(Refusal::SliceLength);
+        return Err(Refusal::SliceLength);
     }
-    if !all_symbols(order as u8, size, sheet) {
-        return Checked::Refused(Refusal::SymbolRange);
+    let sheet = &sheet[..size];
+    if !all_symbols(order as u8, sheet) {
+        return Err(Refusal::SymbolRange);
     }
     if !graeco_latin(side, sheet) {
-        return Checked::Refused(Refusal::NotGraecoLatin);
+        return Err(Refusal::NotGraecoLatin);
     }
-    Checked::Passed
+    Ok(())
 }
 
-// Whether the first `size` bytes are symbols. It goes on behind one that is not, so that several can be compared at once.
-fn all_symbols(order: u8, size: usize, sheet: &[u8]) -> bool
-    requires { size ≤ length sheet.now }
-    ensures { result ≡ all_below size (λ i. ltb (get_or sheet.now i 0) order) }
+// Whether all bytes are symbols. It goes on behind one that is not, so that several can be compared at once.
+fn all_symbols(order: u8, bytes: &[u8]) -> bool
+    ensures { result ≡ all_below (length bytes.now) (λ i. ltb (get_or bytes.now i 0) order) }
 {
     let mut good = true;
-    let mut i: usize = 0;
-    while i < size {
-        if order <= sheet[i] {
-            good = false;
-        }
-        i += 1;
+    for byte in bytes {
+        good &= *byte < order;
     }
     good
 }
