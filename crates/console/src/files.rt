@@ -3,8 +3,7 @@ ghost use Rattle.std.specs.Prelude.{[], ◌∷◌};
 ghost use Rattle.trial.specs.Trial.{trial_from};
 ghost use Rattle.console.specs.Records.{file_values, TrialRead, TrialWritten};
 
-use trial_reader::ReadTrial;
-use trial_writer::Written;
+use crate::answers::store;
 
 // Reads a trial file, with its levels into slices of at least 64 numbers. The name is so many bytes of the file from an offset on. A
 // version 1 file leaves times and h as they are.
@@ -29,22 +28,20 @@ pub extern "C" fn dw_read(
         (file_values degree.new f.new g.new name.new size.new
         version.new h.new) result }
 {
-    let answer = trial_reader::read(file, powers, forces, times);
-    match answer {
-        ReadTrial::Refused(refusal) => refusal.number(),
-        ReadTrial::Content(content) => {
+    match trial_reader::read(file, powers, forces, times) {
+        Ok(content) => {
             *degree = content.degree;
             *f = content.f;
             *g = content.g;
             *name = content.name_at;
             *size = content.size;
             *version = content.version;
-            if content.version < 2 {
-                return 0;
+            if 2 <= content.version {
+                *h = content.h;
             }
-            *h = content.h;
             0
         }
+        Err(refusal) => refusal.number(),
     }
 }
 
@@ -68,11 +65,5 @@ pub extern "C" fn dw_write(
         out.old size.old out.new size.new result }
 {
     let answer = trial_writer::write(version, n, f, g, h, powers, forces, times, name, out);
-    match answer {
-        Written::Refused(refusal) => refusal.number(),
-        Written::Length(length) => {
-            *size = length;
-            0
-        }
-    }
+    store(answer, size)
 }
