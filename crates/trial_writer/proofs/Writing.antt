@@ -9,7 +9,7 @@ use Rattle.reply.specs.Numbers.{number_of}
 use Rattle.reply.specs.Reply.{served, refused, unless, over}
 use Rattle.reply.proofs.Order.{passed, failed, kept, none_applies}
 use Rattle.reply.specs.declared.Refusal.{Refusal}
-use Rattle.trial_writer.specs.declared.writer.Written.TheVariants.{Length, Refused}
+use Rattle.std.specs.Prelude.{Ok, Err}
 use Rattle.leb128.specs.Writing.{Puts}
 use Rattle.leb128.proofs.Putting.{front_put}
 use Rattle.trial.specs.Trial.{Trial, trial_from, encode}
@@ -21,7 +21,7 @@ use Rattle.trial.proofs.Order.{order_few}
 use Rattle.trial.proofs.Content.{Sound, sound}
 
 module _ (t : Trial) (out : List ℕ) where
-  pub refused_write : {why : Refusal} → refused (number_of why) ≡ write_reply t (length out) → WriteDone t out (Refused why) out
+  pub refused_write : {why : Refusal} → refused (number_of why) ≡ write_reply t (length out) → WriteDone t out (Err why) out
   refused_write e = record { reply = e; after = kept e (over (encode t) out) out }
 
   pub content_refused : {number : ℕ} → refused number ≡ unless (content_causes t) (served []) → refused number ≡ write_reply t (length out)
@@ -37,7 +37,7 @@ module _ (t : Trial) (out : List ℕ) where
     no_room h = rw (last_cause, lt-ltb (length out) (length (encode t)) h)
 
     pub put_write : {r : ℕ} {out' : List ℕ} → length (encode t) ≤ length out → Puts out 0 (encode t) r out'
-        → WriteDone t out (Length r) out'
+        → WriteDone t out (Ok r) out'
     put_write h p =
         let e : write_reply t (length out) ≡ served (length (encode t) ∷ []) = last_cause ∙ rw (le-ltb (length out) (length (encode t)) h) in
         let (next, after) = front_put h p in

@@ -11,25 +11,22 @@ ghost use Rattle.trial_writer.specs.Inner.{lists_from};
 use codes::check_three;
 use euclid::check_coprime;
 use levels::distinct;
-use poly::{Checked, Count, Degree};
+use poly::Degree;
 use reply::Refusal;
 use trial::printable;
 
 // What a head is refused for. The check of three codes judges the degree too.
-fn check_head(version: u32, degree: u32, f: u32, g: u32, h: u32) -> Checked
+fn check_head(version: u32, degree: u32, f: u32, g: u32, h: u32) -> Result<(), Refusal>
     ensures { checked_reply result ≡ unless (head_causes today (head_from version degree (f ∷ g ∷ h ∷ []))) (served []) }
 {
-    if version < 1 {
-        return Checked::Refused(Refusal::Version);
-    }
-    if 2 < version {
-        return Checked::Refused(Refusal::Version);
+    if version < 1 || 2 < version {
+        return Err(Refusal::Version);
     }
     if version == 2 {
         return check_three(degree, f, g, h);
     }
     if (Degree { n: degree }).outside_sheets() {
-        return Checked::Refused(Refusal::SheetDegree);
+        return Err(Refusal::SheetDegree);
     }
     check_coprime(degree, f, g)
 }
@@ -41,70 +38,74 @@ fn check_lengths(
     powers: &[u16],
     forces: &[u16],
     times: &[u16],
-) -> Checked
+) -> Result<(), Refusal>
     requires { outside 1 2 version ≡ false }
     ensures { checked_reply result ≡
         unless (length_causes count (lists_from version powers.now forces.now times.now)) (served []) }
 {
     if powers.len() != count {
-        return Checked::Refused(Refusal::SliceLength);
+        return Err(Refusal::SliceLength);
     }
     if forces.len() != count {
-        return Checked::Refused(Refusal::SliceLength);
+        return Err(Refusal::SliceLength);
     }
     if version == 1 {
-        return Checked::Passed;
+        return Ok(());
     }
     if times.len() != count {
-        return Checked::Refused(Refusal::SliceLength);
+        return Err(Refusal::SliceLength);
     }
-    Checked::Passed
+    Ok(())
 }
 
 // Whether the levels differ within each list of a version.
-fn check_levels(version: u32, powers: &[u16], forces: &[u16], times: &[u16]) -> Checked
+fn check_levels(version: u32, powers: &[u16], forces: &[u16], times: &[u16]) -> Result<(), Refusal>
     requires { outside 1 2 version ≡ false }
     ensures { checked_reply result ≡
         unless (repeat_causes (lists_from version powers.now forces.now times.now)) (served []) }
 {
     if !distinct(powers) {
-        return Checked::Refused(Refusal::LevelRepeated);
+        return Err(Refusal::LevelRepeated);
     }
     if !distinct(forces) {
-        return Checked::Refused(Refusal::LevelRepeated);
+        return Err(Refusal::LevelRepeated);
     }
     if version == 1 {
-        return Checked::Passed;
+        return Ok(());
     }
     if !distinct(times) {
-        return Checked::Refused(Refusal::LevelRepeated);
+        return Err(Refusal::LevelRepeated);
     }
-    Checked::Passed
+    Ok(())
 }
 
 // What the lists of a version are refused for, where each is to have so many levels: all lengths come first.
-fn check_lists(version: u32, count: usize, powers: &[u16], forces: &[u16], times: &[u16]) -> Checked
+fn check_lists(
+    version: u32,
+    count: usize,
+    powers: &[u16],
+    forces: &[u16],
+    times: &[u16],
+) -> Result<(), Refusal>
     requires { outside 1 2 version ≡ false }
     ensures { checked_reply result ≡
         unless (list_causes count (lists_from version powers.now forces.now times.now)) (served []) }
 {
-    match check_lengths(version, count, powers, forces, times) {
-        Checked::Refused(why) => Checked::Refused(why),
-        Checked::Passed => check_levels(version, powers, forces, times),
-    }
+    check_lengths(version, count, powers, forces, times)?;
+    check_levels(version, powers, forces, times)
 }
 
 // What a name is refused for.
-fn check_name(name: &[u8]) -> Checked
+fn check_name(name: &[u8]) -> Result<(), Refusal>
     ensures { checked_reply result ≡ unless (name_causes name.now) (served []) }
 {
     if 40 < name.len() {
-        return Checked::Refused(Refusal::NameLength);
+        return Err(Refusal::NameLength);
     }
     if !printable(name) {
-        return Checked::Refused(Refusal::NameByte);
+        return Err(Refusal::NameByte);
     }
-    Checked::Passed
+    Ok(())
 }
 
 // What a content is refused for.
@@ -118,21 +119,13 @@ pub(crate) fn check_content(
     forces: &[u16],
     times: &[u16],
     name: &[u8],
-) -> Checked
+) -> Result<(), Refusal>
     ensures { checked_reply result ≡
         unless (content_causes (trial_from version degree (f ∷ g ∷ h ∷ [])
         (powers.now ∷ forces.now ∷ times.now ∷ []) name.now)) (served []) }
 {
-    match check_head(version, degree, f, g, h) {
-        Checked::Refused(why) => Checked::Refused(why),
-        Checked::Passed => {
-            let Count::Is(order) = (Degree { n: degree }).order() else {
-                return Checked::Refused(Refusal::SheetDegree);
-            };
-            match check_lists(version, order as usize, powers, forces, times) {
-                Checked::Refused(why) => Checked::Refused(why),
-                Checked::Passed => check_name(name),
-            }
-        }
-    }
+    check_head(version, degree, f, g, h)?;
+    let order = (Degree { n: degree }).order()?;
+    check_lists(version, order as usize, powers, forces, times)?;
+    check_name(name)
 }

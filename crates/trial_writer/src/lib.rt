@@ -6,4 +6,4 @@ mod lists;
 mod names;
 mod writer;
 
-pub use writer::{Written, write};
+pub use writer::write;

@@ -8,22 +8,14 @@ ghost use Rattle.trial_writer.specs.Inner.{lists_from};
 
 use leb128::width;
 
-fn wide(level: u16) -> u64
-    ensures { result ≡ level }
-{
-    level as u64
-}
-
 // How many bytes the levels take.
 pub(crate) fn levels_width(levels: &[u16]) -> usize
     requires { length levels.now ≤ 64 }
     ensures { (result ≡ length (encode_numbers levels.now)) × (result ≤ 640) }
 {
     let mut total: usize = 0;
-    let mut i: usize = 0;
-    while i < levels.len() {
-        total += width(wide(levels[i]));
-        i += 1;
+    for level in levels {
+        total += width(u64::from(*level));
     }
     total
 }
@@ -53,10 +45,8 @@ pub(crate) fn put_levels(out: &mut [u8], at: usize, levels: &[u16]) -> usize
     ensures { Puts out.old at (encode_numbers levels.now) result out.new }
 {
     let mut next = at;
-    let mut i: usize = 0;
-    while i < levels.len() {
-        next = put_level(out, next, levels[i]);
-        i += 1;
+    for level in levels {
+        next = put_level(out, next, *level);
     }
     next
 }

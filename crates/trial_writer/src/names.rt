@@ -7,10 +7,7 @@ pub(crate) fn put_name(out: &mut [u8], at: usize, name: &[u8]) -> usize
     requires { at + length name.now ≤ length out.old }
     ensures { Puts out.old at name.now result out.new }
 {
-    let mut i: usize = 0;
-    while i < name.len() {
-        out[at + i] = name[i];
-        i += 1;
-    }
-    at + i
+    let end = at + name.len();
+    out[at..end].copy_from_slice(name);
+    end
 }

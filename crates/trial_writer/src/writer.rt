@@ -10,7 +10,6 @@ use crate::checks::check_content;
 use crate::lists::{levels_width, put_lists};
 use crate::names::put_name;
 use leb128::{put_number, width};
-use poly::Checked;
 use reply::Refusal;
 
 // How many bytes the encoding of a content takes.
@@ -76,14 +75,7 @@ fn put_body(
     put_name(out, at, name)
 }
 
-// The length of the file, or what the content or the slice lent for it is refused for.
-#[derive(Clone, Copy)]
-pub enum Written {
-    Length(usize),
-    Refused(Refusal),
-}
-
-// Writes the file of a content, of version 1 or 2, to the front of `out`. In version 1 neither h nor times is looked at.
+// Writes the file of a content, of version 1 or 2, to the front of `out`, and gives its length. In version 1 neither h nor times is looked at.
 pub fn write(
     version: u32,
     degree: u32,
@@ -95,20 +87,16 @@ pub fn write(
     times: &[u16],
     name: &[u8],
     out: &mut [u8],
-) -> Written
+) -> Result<usize, Refusal>
     ensures { WriteDone (trial_from version degree (f ∷ g ∷ h ∷ [])
         (powers.now ∷ forces.now ∷ times.now ∷ []) name.now)
         out.old result out.new }
 {
-    match check_content(version, degree, f, g, h, powers, forces, times, name) {
-        Checked::Refused(why) => Written::Refused(why),
-        Checked::Passed => {
-            let size = encoded_size(version, degree, f, g, h, powers, forces, times, name);
-            if out.len() < size {
-                return Written::Refused(Refusal::SliceLength);
-            }
-            let at = put_head(out, version, degree, f, g, h);
-            Written::Length(put_body(out, at, version, powers, forces, times, name))
-        }
+    check_content(version, degree, f, g, h, powers, forces, times, name)?;
+    let size = encoded_size(version, degree, f, g, h, powers, forces, times, name);
+    if out.len() < size {
+        return Err(Refusal::SliceLength);
     }
+    let at = put_head(out, version, degree, f, g, h);
+    Ok(put_body(out, at, version, powers, forces, times, name))
 }

@@ -2,6 +2,7 @@
 use mathlib.Core.Path.{◌≡◌, sym, subst}
 use mathlib.Core.List.{[], ◌∷◌}
 use Prim.Native.Nat.{ℕ, ◌^◌}
+use Rattle.std.proofs.lemmas.Result.{err_from_is_err_and}
 use Rattle.reply.specs.Reply.{Reply, served, refused, unless}
 use Rattle.reply.proofs.Order.{NoneApplies, passed, failed, none_applies}
 use Rattle.trial.specs.Rules.{today}
@@ -39,35 +40,37 @@ module _ (t : Trial) where
         )
         e
 
-pub returns-in_default : goal.returns-in_default
-returns-in_default c =
+pub returns-in_err-check_head : goal.returns-in_err-check_head
+returns-in_err-check_head c =
     let a = c.args in
-    let clear = head_clear (head_from a.version a.degree (a.f ∷ a.g ∷ a.h ∷ [])) c.in-Passed.ensures in
-    absurd (order_there a.degree clear.1.0 c.in_default.ensures)
+    let t : Trial =
+    trial_from a.version a.degree (a.f ∷ a.g ∷ a.h ∷ []) (a.powers.now ∷ a.forces.now ∷ a.times.now ∷ []) a.name.now in
+    let p = err_from_is_err_and c.from_residual.result c.from_residual.ensures.1 in
+    rw (p.1, p.2) (refused_head t c.in_err-check_head.ensures)
+
+pub returns-in_err-order : goal.returns-in_err-order
+returns-in_err-order c =
+    let a = c.args in
+    let clear = head_clear (head_from a.version a.degree (a.f ∷ a.g ∷ a.h ∷ [])) c.in_ok-check_head.ensures in
+    absurd (order_there a.degree clear.1.0 c.in_err-order.ensures)
 
 pub check_lists-requires : goal.check_lists-requires
 check_lists-requires c =
-    let a = c.args in (head_clear (head_from a.version a.degree (a.f ∷ a.g ∷ a.h ∷ [])) c.in-Passed.ensures).0
+    let a = c.args in (head_clear (head_from a.version a.degree (a.f ∷ a.g ∷ a.h ∷ [])) c.in_ok-check_head.ensures).0
 
-pub returns-in-Refused : goal.returns-in-Refused
-returns-in-Refused c =
+pub returns-in_err-check_lists : goal.returns-in_err-check_lists
+returns-in_err-check_lists c =
     let a = c.args in
     let t : Trial =
     trial_from a.version a.degree (a.f ∷ a.g ∷ a.h ∷ []) (a.powers.now ∷ a.forces.now ∷ a.times.now ∷ []) a.name.now in
-    refused_head t c.in-Refused.ensures
+    let order = order_is a.degree (head_clear t.head c.in_ok-check_head.ensures).1.0 c.in_ok-order.ensures in
+    let p = err_from_is_err_and c.from_residual-in_err-check_lists.result c.from_residual-in_err-check_lists.ensures.1 in
+    rw (p.1, p.2) (refused_lists t c.in_ok-check_head.ensures order c.in_err-check_lists.ensures)
 
-pub returns-in-Refused-check_lists : goal.returns-in-Refused-check_lists
-returns-in-Refused-check_lists c =
+pub returns : goal.returns
+returns c =
     let a = c.args in
     let t : Trial =
     trial_from a.version a.degree (a.f ∷ a.g ∷ a.h ∷ []) (a.powers.now ∷ a.forces.now ∷ a.times.now ∷ []) a.name.now in
-    let order = order_is a.degree (head_clear t.head c.in-Passed.ensures).1.0 c.in-Is.ensures in
-    refused_lists t c.in-Passed.ensures order c.in-Refused-check_lists.ensures
-
-pub returns-in-Passed-check_lists : goal.returns-in-Passed-check_lists
-returns-in-Passed-check_lists c =
-    let a = c.args in
-    let t : Trial =
-    trial_from a.version a.degree (a.f ∷ a.g ∷ a.h ∷ []) (a.powers.now ∷ a.forces.now ∷ a.times.now ∷ []) a.name.now in
-    let order = order_is a.degree (head_clear t.head c.in-Passed.ensures).1.0 c.in-Is.ensures in
-    name_decides t c.in-Passed.ensures order c.in-Passed-check_lists.ensures c.check_name.ensures
+    let order = order_is a.degree (head_clear t.head c.in_ok-check_head.ensures).1.0 c.in_ok-order.ensures in
+    name_decides t c.in_ok-check_head.ensures order c.in_ok-check_lists.ensures c.check_name.ensures

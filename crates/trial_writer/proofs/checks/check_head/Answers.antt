@@ -5,12 +5,15 @@ use Rattle.poly.proofs.Ranges.{outside_below, outside_above, inside}
 use native.Mathlib.Omega.{arith}
 use borrow.Author.Rules.{rules}
 use Rattle.trial_writer.proofs.checks.check_head.Goals as goal
+use Rattle.trial_writer.proofs.checks.check_head.Goals.{then-version-lt1-via-then-version-lt1}
+use Rattle.trial_writer.proofs.checks.check_head.Goals.{then-version-lt1-via-else-version-lt1+then-version-gt2}
 
 pub returns-then-version-lt1 : goal.returns-then-version-lt1
-returns-then-version-lt1 c = rw (outside_below 1 2 c.if-version-lt1.true)
-
-pub returns-then-version-gt2 : goal.returns-then-version-gt2
-returns-then-version-gt2 c = rw (outside_above 1 2 c.if-version-gt2.true)
+returns-then-version-lt1 c =
+    elim c.then-version-lt1.branch [
+      | then-version-lt1-via-then-version-lt1 w ↦ rw (outside_below 1 2 w.if-version-lt1.true)
+      | then-version-lt1-via-else-version-lt1+then-version-gt2 w ↦ rw (outside_above 1 2 w.if-version-gt2.true)
+    ]
 
 pub returns-then-version-eq2 : goal.returns-then-version-eq2
 unfolding code_causes
