@@ -3,6 +3,7 @@ use Prim.Native.Nat.{ℕ, ◌+◌, ◌-◌, ◌*◌, ◌/◌, ◌^◌, ◌≤◌
 use native.Mathlib.Nat.{mod-lt, mod-mod}
 use native.Mathlib.Omega.{arith}
 use lib.ListN.{length}
+use Rattle.pairs.specs.declared.block.Block.{Block}
 use Rattle.pairs.specs.Words.{words, tabled}
 use Rattle.pairs.proofs.Words.{tabled_is}
 use Rattle.euclid.specs.Chain.{Pair}
@@ -20,44 +21,42 @@ use Rattle.pairs.proofs.Turns.{
 }
 use Rattle.pairs.proofs.pair.pair_in.Goals as goal
 
+few : (b : Block) → b.k ≤ 31
+few b = omega (arith, b.k_le_n, b.n_bound)
+
 counted : {k kept : ℕ} → kept ≡ tabled k → k ≤ 31 → kept ≡ length (words k)
 counted {k = k} e few = e ∙ tabled_is k (omega arith)
 
 -- before the first turn
 begins : (c : goal.After-from10-word)
-    → Between c.args.n c.from10-word.result (c.args.place / c.word_count-words.result)
-    (walk_in c.args.n c.args.k c.args.place)
-    (c.args.place / c.word_count-words.result / 2 ^ (c.args.n - c.args.k))
-    c.args.count (c.args.n - 1) (c.args.k - 1) 1 0 1
+    → Between c.args.block.n c.from10-word.result (c.args.place / c.word_count-words.result)
+    (walk_in c.args.block.n c.args.block.k c.args.place)
+    (c.args.place / c.word_count-words.result / 2 ^ (c.args.block.n - c.args.block.k))
+    c.args.block.compositions (c.args.block.n - 1) (c.args.block.k - 1) 1 0 1
 begins c =
-    let a = c.args in
-    let r = c.requires in
-    first_turn a.n a.k a.place r.le_k r.k_le_n r.place_in_bounds a.count c.word_count-words.result c.from10-word.result r.n_bound
-    r.count_value
-    (counted c.word_count-words.ensures (omega arith)) c.from10-word.ensures
+    let b = c.args.block in
+    first_turn b.n b.k c.args.place b.le_k b.k_le_n c.requires b.compositions c.word_count-words.result c.from10-word.result b.n_bound
+    b.compositions_value (counted c.word_count-words.ensures (few b)) c.from10-word.ensures
 
 pub nonzero_rem-place : goal.nonzero_rem-place
 nonzero_rem-place c =
-    let r = c.requires in
-    some_word c.args.n c.args.k c.args.place r.le_k r.k_le_n r.place_in_bounds c.word_count-words.result
-    (counted c.word_count-words.ensures (omega arith))
+    let b = c.args.block in
+    some_word b.n b.k c.args.place b.le_k b.k_le_n c.requires c.word_count-words.result (counted c.word_count-words.ensures (few b))
 
 pub from10-word-requires : goal.from10-word-requires
 from10-word-requires c =
-    let r = c.requires in
+    let b = c.args.block in
+    let words = counted c.word_count-words.ensures (few b) in
     record {
-      m_bound = omega arith;
-      count_value = counted c.word_count-words.ensures (omega arith);
-      i_lt_count =
-          mod-lt _ (some_word c.args.n c.args.k c.args.place r.le_k r.k_le_n r.place_in_bounds c.word_count-words.result
-          (counted c.word_count-words.ensures (omega arith)));
+      m_bound = few b;
+      count_value = words;
+      i_lt_count = mod-lt _ (some_word b.n b.k c.args.place b.le_k b.k_le_n c.requires c.word_count-words.result words);
     }
 
 pub nonzero_div-bits : goal.nonzero_div-bits
 nonzero_div-bits c =
-    let r = c.requires in
-    some_word c.args.n c.args.k c.args.place r.le_k r.k_le_n r.place_in_bounds c.word_count-words.result
-    (counted c.word_count-words.ensures (omega arith))
+    let b = c.args.block in
+    some_word b.n b.k c.args.place b.le_k b.k_le_n c.requires c.word_count-words.result (counted c.word_count-words.ensures (few b))
 
 pub overflow_sub-index : goal.overflow_sub-index
 overflow_sub-index c = omega arith
@@ -69,10 +68,7 @@ pub overflow_shr-index : goal.overflow_shr-index
 overflow_shr-index c = omega arith
 
 pub overflow_cast-index-2 : goal.overflow_cast-index-2
-overflow_cast-index-2 c = record { fits = omega (arith, (begins c).share.inside, c.ranges.count.fits) }
-
-pub overflow_sub-gaps : goal.overflow_sub-gaps
-overflow_sub-gaps c = omega arith
+overflow_cast-index-2 c = record { fits = omega (arith, (begins c).share.inside, c.args.block.compositions_value) }
 
 pub overflow_sub-commas : goal.overflow_sub-commas
 overflow_sub-commas c = omega arith
@@ -84,13 +80,11 @@ pub overflow_mul-left : goal.overflow_mul-left
 overflow_mul-left c =
     let b = c.loop-gaps.invariant in record { fits = share_fits b.share (omega (arith, b.few, b.gap)) }
 
-pub overflow_sub-gaps-in-loop-gaps : goal.overflow_sub-gaps-in-loop-gaps
-overflow_sub-gaps-in-loop-gaps c = omega arith
-
 -- the share, as it is computed
 shared : {n word bits : ℕ} {t : Pair} {index left gaps commas r s product x : ℕ} → Between n word bits t index left gaps commas r s product
-    → 0 < gaps → x ≡ left * commas * (2 ^ 32 / gaps + 1) / 2 ^ 32 → x ≡ left * commas / gaps
-shared b pos e = e ∙ share_computed _ _ b.share pos (omega (arith, b.few, b.gap))
+    → 0 < gaps → x ≡ left * commas * (2 ^ 32 / (gaps - 1 + 1) + 1) / 2 ^ 32 → x ≡ left * commas / gaps
+shared {gaps = gaps} b pos e =
+    let same : gaps - 1 + 1 ≡ gaps = omega arith in rw same at e ∙ share_computed _ _ b.share pos (omega (arith, b.few, b.gap))
 
 pub overflow_shr-word : goal.overflow_shr-word
 overflow_shr-word c = omega (arith, commas_lt c.loop-gaps.invariant)
@@ -110,8 +104,8 @@ loop-gaps-preserved-then-index-with_comma c =
     (comma_turn _ _ c.loop-gaps.invariant c.loop-gaps-test.true
     (rw (shared c.loop-gaps.invariant c.loop-gaps-test.true c.share-with_comma.ensures) at c.if-index-with_comma.true))
 
-pub overflow_sub-gaps-else-index-with_comma : goal.overflow_sub-gaps-else-index-with_comma
-overflow_sub-gaps-else-index-with_comma c =
+pub overflow_sub-gaps : goal.overflow_sub-gaps
+overflow_sub-gaps c =
     plus_left _ _ c.loop-gaps.invariant.share c.loop-gaps-test.true
     (rw (shared c.loop-gaps.invariant c.loop-gaps-test.true c.share-with_comma.ensures) at c.if-index-with_comma.false)
 
@@ -138,7 +132,6 @@ loop-gaps-preserved c =
 pub returns : goal.returns
 returns c =
     let l = c.loop-gaps in
-    let a = c.args in
-    let r = c.requires in
+    let b = c.args.block in
     rw c.scaled-2.ensures
-    (answer a.n a.k a.place r.le_k r.k_le_n r.place_in_bounds _ l.r (last_turn _ _ l.invariant c.loop-gaps-test.false))
+    (answer b.n b.k c.args.place b.le_k b.k_le_n c.requires _ l.r (last_turn _ _ l.invariant c.loop-gaps-test.false))

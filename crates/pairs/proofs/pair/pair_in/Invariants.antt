@@ -6,6 +6,3 @@ use Rattle.pairs.proofs.pair.pair_in.Given as goal
 abbrev pub invariant-loop-gaps : goal.invariant-loop-gaps
 invariant-loop-gaps l =
     Between l.n l.word l.bits (walk_in l.n l.k l.place) l.index l.left l.gaps l.commas l.r l.s l.product
-
-abbrev pub decreases-loop-gaps : goal.decreases-loop-gaps
-decreases-loop-gaps l = l.gaps
