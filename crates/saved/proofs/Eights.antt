@@ -8,24 +8,20 @@ use borrow.Author.Tests.{lt-ltb, le-ltb, ltb-false}
 use lib.ListN.{length, set, take, drop, length-set}
 use lib.Seq.{take_all, take-suc-set}
 use Rattle.reply.specs.Reply.{Cause}
-use Rattle.reply.specs.Numbers.{number_of}
-use Rattle.reply.specs.declared.Refusal.{Refusal}
 use Rattle.leb128.specs.Parser.{Parsed, parsed, failed, pure, resume}
 use Rattle.leb128.specs.Number.{ceiling_causes, parse_groups, limits64, parse_number, number, field, fields}
 use Rattle.leb128.proofs.Parser.{either, checked_parsed, parsed_checked}
 use Rattle.saved.specs.Saved.{mark_causes}
-use Rattle.saved.specs.declared.reading.Behind.TheVariants.{At, Refused}
-use Rattle.saved.specs.declared.reading.Eight.{Eight}
-use Rattle.saved.specs.Inner.{at_most, eight_parsed, EightRead}
+use Rattle.saved.specs.Inner.{at_most}
 
 -- Numbers in front of those that are read.
 abbrev pub ahead : List ℕ → Parsed (List ℕ) → Parsed (List ℕ)
 ahead front (parsed numbers rest) = parsed (front ++ numbers) rest
-ahead front (failed number) = failed number
+ahead front (failed k) = failed k
 
 ahead_twice : (front more : List ℕ) (p : Parsed (List ℕ)) → ahead front (ahead more p) ≡ ahead (front ++ more) p
 ahead_twice front more (parsed numbers rest) = rw append_assoc
-ahead_twice front more (failed number) = refl
+ahead_twice front more (failed k) = refl
 
 one_ahead : (causes : ℕ → List Cause) (count : ℕ) (bytes : List ℕ) {n : ℕ} {rest : List ℕ} → field limits64 causes bytes ≡ parsed n rest
     → fields limits64 causes (suc count) bytes ≡ ahead (n ∷ []) (fields limits64 causes count rest)
@@ -33,7 +29,7 @@ one_ahead causes count bytes {n} {rest} e = rw e (go (fields limits64 causes cou
   where
     go : (p : Parsed (List ℕ)) → resume p (λ others. pure (n ∷ others)) ≡ ahead (n ∷ []) p
     go (parsed numbers rest) = refl
-    go (failed number) = refl
+    go (failed k) = refl
 
 pub record SoFar (most : ℕ) (file : List ℕ) (at : ℕ) (numbers : List ℕ) (next i : ℕ) : Type 0 where
   pub few : i ≤ 8
@@ -53,7 +49,7 @@ nothing_yet most file at numbers kept inside = record {
   where
     go : (p : Parsed (List ℕ)) → p ≡ ahead [] p
     go (parsed numbers rest) = refl
-    go (failed number) = refl
+    go (failed k) = refl
 
 module _ {most : ℕ} {file : List ℕ} {at : ℕ} {numbers : List ℕ} {next i : ℕ} (s : SoFar most file at numbers next i) where
   pub all_read : 8 ≤ i → fields limits64 (at_most most) 8 (drop at file) ≡ parsed numbers (drop next file)
@@ -101,15 +97,3 @@ no_limit (suc count) bytes =
     either (number bytes)
     (λ n rest e. rw (e, le-ltb 18446744073709551615 n (below_ceiling bytes e), no_limit count rest))
     (λ k e. rw e)
-
--- What the answer says once its case is known.
-module _ {most : ℕ} {file : List ℕ} {at : ℕ} {r : Eight} (reads : EightRead most file at r) where
-  pub eight_told : {next : ℕ} → r.behind ≡ At next
-      → fields limits64 (at_most most) 8 (drop at file) ≡ parsed r.numbers (drop next file)
-  eight_told e = sym reads.says ∙ ap (eight_parsed file r.numbers) e
-
-  pub eight_inside : {next : ℕ} → r.behind ≡ At next → next ≤ length file
-  eight_inside e = rw e at reads.inside
-
-  pub eight_refused : {why : Refusal} → r.behind ≡ Refused why → fields limits64 (at_most most) 8 (drop at file) ≡ failed (number_of why)
-  eight_refused e = sym reads.says ∙ ap (eight_parsed file r.numbers) e

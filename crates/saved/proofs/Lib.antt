@@ -1,4 +1,5 @@
 pub mod Eights
+pub mod Places
 pub mod Ending
 pub mod Saving
 pub mod Release

@@ -18,7 +18,6 @@ use Rattle.walk.specs.Walks.{walk_at, bad_record, record_cause}
 use Rattle.walk.specs.Claims.{Sound}
 use Rattle.walk.proofs.Keeping.{right_at}
 use Rattle.saved.specs.Saved.{kind_causes, count_causes, mark_causes, eight, load}
-use Rattle.saved.specs.Inner.{parse_place}
 
 pub record Parts (file : List ℕ) (walk : Walk) : Type 0 where
   pub kind : ℕ
@@ -47,7 +46,7 @@ empty (b ∷ bytes) e = absurd (omega (arith, ltb-false 0 (length (b ∷ bytes))
 pub parts_read : (file : List ℕ) {walk : Walk} {rest : List ℕ} → load file ≡ parsed walk rest → Parts file walk
 unfolding load parse_end
 parts_read file {walk} {rest} e =
-    with_parsed (field limits64 kind_causes) parse_place file e λ kind r₁ e₁ p₁.
+    with_parsed (field limits64 kind_causes) _ file e λ kind r₁ e₁ p₁.
     with_parsed number _ r₁ p₁ λ degree r₂ e₂ p₂.
     with_parsed number _ r₂ p₂ λ position r₃ e₃ p₃.
     with_parsed (eight kind mark_causes) _ r₃ p₃ λ marks r₄ e₄ p₄.

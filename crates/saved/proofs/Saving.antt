@@ -19,7 +19,7 @@ use Rattle.leb128.proofs.Putting.{front_put}
 use Rattle.walk.specs.declared.Walk.{Walk}
 use Rattle.walk.specs.Walks.{bad_record}
 use Rattle.walk.proofs.Looks.{good}
-use Rattle.saved.specs.declared.writing.Saved.TheVariants.{Length, Refused}
+use Rattle.std.specs.Prelude.{Ok, Err}
 use Rattle.saved.specs.Saved.{encode_walk}
 use Rattle.saved.specs.Replies.{save_reply}
 use Rattle.saved.specs.Answers.{SaveDone}
@@ -50,7 +50,7 @@ few_bytes walk eight_marks eight_counts ok =
     omega (arith, size walk)
 
 module _ (walk : Walk) (out : List ℕ) where
-  pub refused_save : {why : Refusal} → refused (number_of why) ≡ save_reply walk (length out) → SaveDone walk out (Refused why) out
+  pub refused_save : {why : Refusal} → refused (number_of why) ≡ save_reply walk (length out) → SaveDone walk out (Err why) out
   refused_save e = record { reply = e; after = kept e (over (encode_walk walk) out) out }
 
   pub bad_save : bad_record walk ≡ true → refused 3 ≡ save_reply walk (length out)
@@ -67,5 +67,5 @@ module _ (walk : Walk) (out : List ℕ) where
     room h = rw (good, le-ltb (length out) (length (encode_walk walk)) h)
 
     pub put_save : {r : ℕ} {out' : List ℕ} → length (encode_walk walk) ≤ length out → Puts out 0 (encode_walk walk) r out'
-        → SaveDone walk out (Length r) out'
+        → SaveDone walk out (Ok r) out'
     put_save h p = let (next, after) = front_put h p in record { reply = rw (room h, next); after = rw (room h, after) }

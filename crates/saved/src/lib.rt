@@ -5,4 +5,4 @@ mod reading;
 mod writing;
 
 pub use reading::load;
-pub use writing::{Saved, save};
+pub use writing::save;

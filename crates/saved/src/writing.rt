@@ -1,88 +1,78 @@
 // A walk written to lent memory.
-ghost use Rattle.std.specs.Prelude.{◌≡◌, ◌+◌, ◌≤◌, length};
+ghost use Rattle.std.specs.Prelude.{◌≡◌, false, ◌+◌, ◌≤◌, leb, length};
 ghost use Rattle.leb128.specs.Number.{encode_numbers};
 ghost use Rattle.leb128.specs.Writing.{Puts};
+ghost use Rattle.walk.specs.Walks.{bad_record};
 ghost use Rattle.saved.specs.Saved.{encode_walk};
 ghost use Rattle.saved.specs.Answers.{SaveDone};
 
 use leb128::{put_number, width};
-use poly::Checked;
 use reply::Refusal;
 use walk::Walk;
 
+// No file has more bytes.
+const MOST_BYTES: usize = 155;
+
 // How many bytes eight numbers take.
-fn eight_width(numbers: [u64; 8]) -> usize
-    ensures { (result ≡ length (encode_numbers numbers)) × (result ≤ 80) }
+fn eight_width(numbers: &[u64; 8]) -> usize
+    ensures { (result ≡ length (encode_numbers numbers.now)) × (result ≤ 80) }
 {
-    let mut total: usize = 0;
-    let mut i: usize = 0;
-    while i < 8 {
-        total += width(numbers[i]);
-        i += 1;
+    let mut total = 0;
+    for number in numbers {
+        total += width(*number);
     }
     total
 }
 
 // Puts eight numbers at a position of `out`, and gives the position behind them.
-fn put_eight(out: &mut [u8], at: usize, numbers: [u64; 8]) -> usize
-    requires { at + length (encode_numbers numbers) ≤ length out.old }
-    ensures { Puts out.old at (encode_numbers numbers) result out.new }
+fn put_eight(out: &mut [u8], at: usize, numbers: &[u64; 8]) -> usize
+    requires { at + length (encode_numbers numbers.now) ≤ length out.old }
+    ensures { Puts out.old at (encode_numbers numbers.now) result out.new }
 {
     let mut next = at;
-    let mut i: usize = 0;
-    while i < 8 {
-        next = put_number(out, next, numbers[i]);
-        i += 1;
+    for number in numbers {
+        next = put_number(out, next, *number);
     }
     next
 }
 
-// How many bytes a saved walk takes.
-fn saved_size(walk: Walk) -> usize
-    ensures { result ≡ length (encode_walk walk) }
+// Whether a file of the walk has room in so many bytes. Where any has, its length need not be found.
+fn has_room(walk: &Walk, room: usize) -> bool
+    requires { bad_record walk.now ≡ false }
+    ensures { result ≡ leb (length (encode_walk walk.now)) room }
 {
-    let marks = walk.marks;
-    let counts = walk.counts;
-    1 + width(walk.degree as u64) + width(walk.position) + eight_width(marks) + eight_width(counts)
+    let marks = &walk.marks;
+    let counts = &walk.counts;
+    if MOST_BYTES <= room {
+        return true;
+    }
+    let size = 1
+        + width(u64::from(walk.degree))
+        + width(walk.position)
+        + eight_width(marks)
+        + eight_width(counts);
+    size <= room
 }
 
 // Puts a walk at the front of `out`, and gives the position behind it.
-fn put_walk(out: &mut [u8], walk: Walk) -> usize
-    requires { length (encode_walk walk) ≤ length out.old }
-    ensures { Puts out.old 0 (encode_walk walk) result out.new }
+fn put_walk(out: &mut [u8], walk: &Walk) -> usize
+    requires { length (encode_walk walk.now) ≤ length out.old }
+    ensures { Puts out.old 0 (encode_walk walk.now) result out.new }
 {
     let at = put_number(out, 0, 2);
-    let at = put_number(out, at, walk.degree as u64);
+    let at = put_number(out, at, u64::from(walk.degree));
     let at = put_number(out, at, walk.position);
-    let marks = walk.marks;
-    let at = put_eight(out, at, marks);
-    let counts = walk.counts;
-    put_eight(out, at, counts)
+    let at = put_eight(out, at, &walk.marks);
+    put_eight(out, at, &walk.counts)
 }
 
-// The length of the file, or what the record or the slice lent for it is refused for.
-#[derive(Clone, Copy)]
-pub enum Saved {
-    Length(usize),
-    Refused(Refusal),
-}
-
-// Saves a walk at the front of `out`. The next pair is not saved: reading works it out.
-pub fn save(walk: Walk, out: &mut [u8]) -> Saved
-    ensures { SaveDone walk out.old result out.new }
+// Saves a walk at the front of `out`, and gives the length of the file. The next pair is not saved: reading works it out.
+pub fn save(walk: &Walk, out: &mut [u8]) -> Result<usize, Refusal>
+    ensures { SaveDone walk.now out.old result out.new }
 {
-    match walk.checked() {
-        Checked::Refused(why) => Saved::Refused(why),
-        Checked::Passed => {
-            // No file is longer, so that its length need not be found first.
-            if 155 <= out.len() {
-                return Saved::Length(put_walk(out, walk));
-            }
-            let size = saved_size(walk);
-            if out.len() < size {
-                return Saved::Refused(Refusal::SliceLength);
-            }
-            Saved::Length(put_walk(out, walk))
-        }
+    walk.checked()?;
+    if !has_room(walk, out.len()) {
+        return Err(Refusal::SliceLength);
     }
+    Ok(put_walk(out, walk))
 }

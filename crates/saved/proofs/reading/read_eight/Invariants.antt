@@ -1,10 +1,6 @@
 -- `read_eight` meets its contract: the numbers read are at the front of the array.
-use Prim.Native.Nat.{◌-◌}
 use Rattle.saved.proofs.Eights.{SoFar}
 use Rattle.saved.proofs.reading.read_eight.Given as goal
 
-abbrev pub invariant-loop-i : goal.invariant-loop-i
-invariant-loop-i l = SoFar l.most l.file l.at l.numbers l.next l.i
-
-abbrev pub decreases-loop-i : goal.decreases-loop-i
-decreases-loop-i l = 8 - l.i
+abbrev pub invariant-loop-number : goal.invariant-loop-number
+invariant-loop-number l = SoFar l.most l.file l.at l.number-items l.next l.number-index

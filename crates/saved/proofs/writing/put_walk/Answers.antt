@@ -27,23 +27,23 @@ put₃ walk {out} enough kind degree position =
 
 pub put_eight-at-requires : goal.put_eight-at-requires
 put_eight-at-requires c =
-    let w = c.args.walk in
+    let w = c.args.walk.now in
     room_first (encode_numbers w.marks) (encode_numbers w.counts)
-    (put₃ w c.requires c.put_number-at.ensures c.put_number-at-2.ensures c.put_number-at-3.ensures)
+    (put₃ w c.requires c.put_number-at.ensures (rw c.from.ensures at c.put_number-at-2.ensures) c.put_number-at-3.ensures)
     (room w c.args.out.now c.requires)
 
 pub put_eight-requires : goal.put_eight-requires
 put_eight-requires c =
-    let w = c.args.walk in
+    let w = c.args.walk.now in
     room_left
     (bytes_put (encode_numbers w.marks)
-    (put₃ w c.requires c.put_number-at.ensures c.put_number-at-2.ensures c.put_number-at-3.ensures) c.put_eight-at.ensures)
+    (put₃ w c.requires c.put_number-at.ensures (rw c.from.ensures at c.put_number-at-2.ensures) c.put_number-at-3.ensures) c.put_eight-at.ensures)
     (room w c.args.out.now c.requires)
 
 pub returns : goal.returns
 returns c =
-    let w = c.args.walk in
+    let w = c.args.walk.now in
     last_put
     (bytes_put (encode_numbers w.marks)
-    (put₃ w c.requires c.put_number-at.ensures c.put_number-at-2.ensures c.put_number-at-3.ensures) c.put_eight-at.ensures)
+    (put₃ w c.requires c.put_number-at.ensures (rw c.from.ensures at c.put_number-at-2.ensures) c.put_number-at-3.ensures) c.put_eight-at.ensures)
     c.put_eight.ensures
