@@ -1,21 +1,16 @@
--- The blocks before one: their sizes as code adds them up, and the bounds that keep the sum within a register for degrees up to 31.
-use Prim.Native.Nat.{ℕ, zero, suc, ◌+◌, ◌-◌, ◌*◌, ◌%◌, ◌^◌, ◌≤◌, ◌<◌}
-use native.Mathlib.Nat.{add-zero, add-suc, suc-add, mul_comm, pow-suc, pow-le-pow_right}
+-- The blocks before one: their sizes as code adds them up, and the bound that keeps the sum within a register for degrees up to 31.
+use Prim.Native.Nat.{ℕ, zero, suc, ◌+◌, ◌-◌, ◌^◌, ◌≤◌, ◌<◌}
+use native.Mathlib.Nat.{add-zero, add-suc, suc-add, pow-le-pow_right}
 use native.Mathlib.Omega.{arith}
 use mathlib.Core.Path.{◌≡◌, ap, ◌∙◌}
 use mathlib.Core.List.{[]}
 use lib.ListN.{length}
-use lib.Pow.{pow_pos, shl_exact}
 use Rattle.loops.specs.Loops.{numbers, each}
 use Rattle.loops.proofs.Loops.{before, before_next, listed_blocks}
-use Rattle.pairs.specs.Words.{s10, words}
 use Rattle.pairs.specs.Sequences.{block, sequences}
-use Rattle.pairs.proofs.Compositions.{parts}
-use Rattle.pairs.proofs.Words.{count, length_words}
 use Rattle.pairs.proofs.Blocks.{block_size, block_at, listed_block}
 use Rattle.pairs.proofs.Sequences.{length_sequences}
 use Rattle.pairs.proofs.Length.{length_closed}
-use Rattle.positions.proofs.Ranking.{words_le}
 
 pub length_before : (n i : ℕ) → length (each (numbers 2 i) (block n)) ≡ before (block_size n) 2 i
 length_before n i = (listed_blocks (block_size n) (block_at n) [] (block n) (listed_block n) 2 i).long
@@ -43,10 +38,3 @@ pub sequences_lt : (n : ℕ) → n < 32 → length (sequences n) < 2 ^ 60
 sequences_lt n h =
     let small : 4 ^ (n - 1) ≤ 4 ^ 30 = pow-le-pow_right {n = 4} (omega arith) {i = n - 1} {j = 30} (omega arith) in
     omega (arith, length_closed n)
-
--- The size of one block.
-pub size_shifted : (n k c w : ℕ) → k ≤ n → n < 32 → c ≡ parts n k → w ≡ length (words k) → c * (w * 2 ^ (n - k) % 2 ^ 64) ≡ block_size n k
-unfolding block_size
-size_shifted n k c w l h is many =
-    let few : w < 2 ^ suc k = omega (arith, words_le s10 k, pow-suc 2 k, pow_pos k) in
-    rw (shl_exact (suc k) (n - k) 64 few (omega arith), is, many, length_words, mul_comm (count s10 k) (2 ^ (n - k)))

@@ -28,7 +28,7 @@ use Rattle.pairs.proofs.Blocks.{length_le}
 use Rattle.pairs.proofs.Sequences.{sequence_rank, sequence_rank_lt, sequence_at_is, sequence_at_rank, sequence_at_known, sequences_valid}
 
 -- ---- words
-pub words_le : (s : State) (m : ℕ) → length (words_from s m) ≤ 2 ^ m
+words_le : (s : State) (m : ℕ) → length (words_from s m) ≤ 2 ^ m
 words_le s m = rw length_words (le s m)
   where
     le : (s : State) (m : ℕ) → count s m ≤ 2 ^ m

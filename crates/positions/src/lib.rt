@@ -10,7 +10,7 @@ ghost use Rattle.pairs.specs.Sequences.{compositions, block, sequences};
 ghost use Rattle.positions.specs.Replies.{place_reply, position_reply};
 ghost use Rattle.positions.specs.Ranking.{StandsAt, Among, backwards, Sequence, Parts};
 
-use pairs::{share, word_count};
+use pairs::{Block, share, word_count};
 use ranks::rank10;
 use reply::Refusal;
 
@@ -34,7 +34,7 @@ fn sequence_position(n: u32, chain: &[u32], k: usize) -> u64
     ensures { StandsAt (sequences n) result (backwards chain.now k) }
 {
     let before = blocks_before(n, k);
-    let composition = composition_rank(n, chain, k, before.compositions);
+    let composition = composition_rank(before.block, chain);
     let parts = bits_and_word(chain, k);
     let words = word_count(k);
     let word = rank10(k, parts.word, words);
@@ -45,41 +45,37 @@ fn sequence_position(n: u32, chain: &[u32], k: usize) -> u64
 #[derive(Clone, Copy)]
 struct Before {
     size: u64,
-    compositions: u32,
+    block: Block,
 }
 
-// How many sequences have fewer than k quotients, and how many compositions have k parts. Each number of compositions, and of words of j
-// letters, is made from the one before it.
+// How many sequences have fewer than k quotients, and the block of those that have k.
 fn blocks_before(n: u32, k: usize) -> Before
     requires { (2 ≤ k) × (k ≤ n) × (n < 32) }
-    ensures { (result.size ≡ length (each (numbers 2 (k - 2)) (block n))) × (result.compositions ≡ length (compositions n k)) }
+    ensures size { result.size ≡ length (each (numbers 2 (k - 2)) (block n)) }
+    ensures degree { result.block.n ≡ n }
+    ensures quotients { result.block.k ≡ k }
 {
-    let mut j: u32 = 2;
     let mut size: u64 = 0;
-    let mut compositions = n - 1;
-    let mut words = 2;
-    while (j as usize) < k {
-        size += compositions as u64 * (words << (n - j));
-        compositions = share(compositions * (n - j), j);
-        words = (1u64 << j) - words;
-        j += 1;
+    let mut block = Block::first(n);
+    while (block.k as usize) < k {
+        size += block.size();
+        block = block.next();
     }
-    Before { size, compositions }
+    Before { size, block }
 }
 
-// The index of the degrees among the compositions of n into k parts; count is their number. The walk goes over the gaps between n ones: a
-// comma ends a degree, and before each plus stand the compositions with a comma in its place. A turn computes what either would leave and
-// takes one of the two.
-fn composition_rank(n: u32, chain: &[u32], k: usize, count: u32) -> u32
-    requires small { n < 32 }
-    requires room { k < length chain.now }
-    requires listed { Among (sequences n) (backwards chain.now k) }
-    requires all { count ≡ length (compositions n k) }
-    ensures { StandsAt (compositions n k) result (map (degree 2) (backwards chain.now k)) }
+// The index of the degrees among the block's compositions. The walk goes over the gaps between n ones: a comma ends a degree, and before
+// each plus stand the compositions with a comma in its place. A turn computes what either would leave and takes one of the two. The walk
+// ends with the last comma, so it counts these and not the gaps, of which some may be left.
+fn composition_rank(block: Block, chain: &[u32]) -> u32
+    requires room { block.k < length chain.now }
+    requires listed { Among (sequences block.n) (backwards chain.now block.k) }
+    ensures { StandsAt (compositions block.n block.k) result (map (degree 2) (backwards chain.now block.k)) }
 {
+    let k = block.k as usize;
     let mut rank = 0;
-    let mut left = n;
-    let mut count = count;
+    let mut left = block.n;
+    let mut count = block.compositions;
     let mut commas = k - 1;
     let mut d = poly::degree_of(chain[k]);
     while 0 < commas {
@@ -114,15 +110,13 @@ fn bits_and_word(chain: &[u32], k: usize) -> BitsAndWord
     requires listed { Sequence (backwards chain.now k) }
     ensures { Parts (backwards chain.now k) result.bits result.word }
 {
-    let mut left = k;
     let mut bits = 0;
     let mut word = 0;
-    while 0 < left {
-        let q = chain[left];
+    for place in (1..k + 1).rev() {
+        let q = chain[place];
         let d = poly::degree_of(q);
         bits = (bits << (d - 1)) + (q - (1 << d)) / 2;
         word = 2 * word + q % 2;
-        left -= 1;
     }
     BitsAndWord { bits, word }
 }

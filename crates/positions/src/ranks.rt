@@ -1,4 +1,4 @@
-// The index of a kept word. There is one reader for each state, and each hands the rest of the word to the next (document 01, "Words").
+// The index of a kept word. Document 01, "Words", asks for one reader for each state, each of which hands the rest of the word to the next.
 // Each is told how many words of m letters lead from its state to (1,0), and tells the next, as the readers by index do.
 ghost use Rattle.std.specs.Prelude.{◌≡◌, true, ◌<◌, length};
 ghost use Rattle.pairs.specs.Words.{s10, s11, s01, leads, words_from};

@@ -9,6 +9,7 @@ use borrow.Author.Tests.{lt-ltb, le-ltb}
 use lib.Dec.{ltb}
 use lib.ListN.{length, get_or, length-map}
 use Rattle.poly.specs.Code.{degree}
+use Rattle.pairs.specs.declared.block.Block.{Block}
 use Rattle.pairs.specs.Sequences.{compositions}
 use Rattle.positions.specs.Ranking.{StandsAt, backwards}
 use Rattle.pairs.proofs.Valid.{Valid}
@@ -28,6 +29,9 @@ use Rattle.positions.proofs.ReadBack.{
 }
 use Rattle.positions.proofs.composition_rank.Invariants.{degrees}
 use Rattle.positions.proofs.composition_rank.Goals as goal
+
+small : (b : Block) → b.n < 32
+small b = omega (arith, b.n_bound)
 
 length-degrees : (chain : List ℕ) (k : ℕ) → length (degrees chain k) ≡ k
 length-degrees chain k = length-map (backwards chain k) (degree 2) ∙ length_backwards chain k
@@ -58,14 +62,14 @@ module _ (n : ℕ) (chain : List ℕ) (k : ℕ) (v : Valid n (backwards chain k)
 pub overflow_sub-commas : goal.overflow_sub-commas
 overflow_sub-commas c =
     let a = c.args in
-    omega (arith, backwards_count a.n a.chain.now a.k (among_valid a.n (backwards a.chain.now a.k) c.requires.listed))
+    omega (arith, backwards_count a.block.n a.chain.now a.block.k (among_valid a.block.n (backwards a.chain.now a.block.k) c.requires.listed))
 
 pub loop-commas-init : goal.loop-commas-init
 loop-commas-init c =
     let a = c.args in
-    let v = among_valid a.n (backwards a.chain.now a.k) c.requires.listed in (
-      omega (arith, backwards_count a.n a.chain.now a.k v),
-      first a.n a.chain.now a.k v c.requires.all c.degree_of-d.ensures,
+    let v = among_valid a.block.n (backwards a.chain.now a.block.k) c.requires.listed in (
+      omega (arith, backwards_count a.block.n a.chain.now a.block.k v),
+      first a.block.n a.chain.now a.block.k v c.args.block.compositions_value c.degree_of-d.ensures,
     )
 
 pub overflow_sub-left : goal.overflow_sub-left
@@ -77,15 +81,15 @@ overflow_cast-commas c =
     record {
       fits = omega (
         arith,
-        backwards_count a.n a.chain.now a.k
-            (among_valid a.n (backwards a.chain.now a.k) c.requires.listed),
+        backwards_count a.block.n a.chain.now a.block.k
+            (among_valid a.block.n (backwards a.chain.now a.block.k) c.requires.listed),
         c.loop-commas.invariant.0,
-        c.requires.small,
+        (small c.args.block),
       );
     }
 
 pub overflow_mul-count : goal.overflow_mul-count
-overflow_mul-count c = record { fits = share_fits c.loop-commas.invariant.1 c.requires.small }
+overflow_mul-count c = record { fits = share_fits c.loop-commas.invariant.1 (small c.args.block) }
 
 -- one gap more, whichever it is
 turn : (n : ℕ) (all chain : List ℕ) {rank left count commas d next : ℕ} → 0 < commas → next ≡ degree 2 (get_or chain commas 0)
@@ -116,21 +120,21 @@ one_at_most d h = elim (dec_lt 1 d) [
 pub overflow_add-rank : goal.overflow_add-rank
 overflow_add-rank c =
     let a = c.args in
-    let next = walked_next a.n (degrees a.chain.now a.k) a.chain.now c.requires.small c.loop-commas-test.true
+    let next = walked_next a.block.n (degrees a.chain.now a.block.k) a.chain.now (small c.args.block) c.loop-commas-test.true
     c.share-with_comma.ensures c.either-rank.ensures c.degree_of-next.ensures c.loop-commas.invariant.1 in
     record {
       fits = omega (
         arith,
         c.either-rank.ensures,
         next.rank_is,
-        rank_lt a.n a.chain.now a.k
-            (among_valid a.n (backwards a.chain.now a.k) c.requires.listed) c.requires.small,
+        rank_lt a.block.n a.chain.now a.block.k
+            (among_valid a.block.n (backwards a.chain.now a.block.k) c.requires.listed) (small c.args.block),
       );
     }
 
 pub overflow_sub-count : goal.overflow_sub-count
 overflow_sub-count c =
-    rw (c.share-with_comma.ensures ∙ share_computed c.loop-commas.invariant.1 c.requires.small c.loop-commas-test.true)
+    rw (c.share-with_comma.ensures ∙ share_computed c.loop-commas.invariant.1 (small c.args.block) c.loop-commas-test.true)
     (share_le c.loop-commas.invariant.1 c.loop-commas-test.true)
 
 pub overflow_sub-d : goal.overflow_sub-d
@@ -147,12 +151,12 @@ pub loop-commas-preserved : goal.loop-commas-preserved
 loop-commas-preserved c = let a = c.args in (
   omega (arith, c.loop-commas.invariant.0),
   rw (c.either-count.ensures, c.either-d.ensures, c.either.ensures)
-      (walked_next a.n (degrees a.chain.now a.k) a.chain.now c.requires.small c.loop-commas-test.true c.share-with_comma.ensures
+      (walked_next a.block.n (degrees a.chain.now a.block.k) a.chain.now (small c.args.block) c.loop-commas-test.true c.share-with_comma.ensures
       c.either-rank.ensures c.degree_of-next.ensures c.loop-commas.invariant.1),
 )
 
 pub returns : goal.returns
 returns c =
     let a = c.args in
-    stands a.n a.chain.now a.k (among_valid a.n (backwards a.chain.now a.k) c.requires.listed)
+    stands a.block.n a.chain.now a.block.k (among_valid a.block.n (backwards a.chain.now a.block.k) c.requires.listed)
     (walked_all c.loop-commas.invariant.1 (omega arith))

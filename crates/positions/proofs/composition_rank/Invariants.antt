@@ -13,7 +13,7 @@ degrees chain k = map (degree 2) (backwards chain k)
 
 abbrev pub invariant-loop-commas : goal.invariant-loop-commas
 invariant-loop-commas l =
-    (l.commas < l.k) × Walked l.n (degrees l.chain l.k) l.rank l.left l.count l.commas l.d (degrees l.chain l.commas)
+    (l.commas < l.k) × Walked l.fn.block.n (degrees l.chain l.k) l.rank l.left l.count l.commas l.d (degrees l.chain l.commas)
 
 abbrev pub decreases-loop-commas : goal.decreases-loop-commas
 decreases-loop-commas l = l.left
