@@ -1,6 +1,7 @@
-// The kept words by their index: one reader for each state, which hand the rest to each other. A word is a binary number, first letter
-// highest. Each reader is told how many words it chooses from and tells the next: the table, a constant array, would be built anew at each
-// letter. From (1,0) and from (1,1), the words of m letters and those of one letter less number 2^(m-1) together.
+// The kept words by their index. Document 01, "Words", asks for one reader for each state, which hand the rest to each other. A word is a
+// binary number, first letter highest. Each reader is told how many words it chooses from and tells the next: the table, a constant array,
+// would be built anew at each letter. From (1,0) and from (1,1), the words of m letters and those of one letter less number 2^(m-1)
+// together.
 ghost use Rattle.std.specs.Prelude.{[], ◌≡◌, ◌≤◌, ◌<◌, length, get_or};
 ghost use Rattle.pairs.specs.Words.{s10, s11, s01, words_from, as_number};
 
