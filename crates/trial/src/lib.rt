@@ -8,16 +8,5 @@ ghost use Rattle.trial.specs.Trial.{any_unprintable};
 pub fn printable(bytes: &[u8]) -> bool
     ensures { result ≡ not (any_unprintable bytes.now) }
 {
-    let mut i: usize = 0;
-    while i < bytes.len() {
-        let byte = bytes[i];
-        if byte < 32 {
-            return false;
-        }
-        if 126 < byte {
-            return false;
-        }
-        i += 1;
-    }
-    true
+    bytes.iter().all(|byte| (32..=126).contains(byte))
 }

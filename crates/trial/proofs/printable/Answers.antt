@@ -1,29 +1,36 @@
-use mathlib.Core.Bool.{◌||◌}
-use mathlib.Core.Path.{◌≡◌}
-use Prim.Native.Nat.{ℕ, suc, ◌<◌}
-use mathlib.Core.List.{List}
-use native.Mathlib.Numerals.{add-one}
-use lib.ListN.{length, get_or, drop, drop_of_length-le}
-use lib.Seq.{drop-cons}
-use Rattle.poly.specs.Limits.{outside}
-use Rattle.poly.proofs.Ranges.{outside_below, outside_above, inside}
+-- `printable` meets its contract: `all` tells that each byte is from 32 to 126, so that none is unprintable.
+use mathlib.Core.Path.{◌≡◌, refl}
+use mathlib.Core.Bool.{Bool, true, false, not, true≢false}
+use mathlib.Core.List.{List, [], ◌∷◌}
+use Prim.Native.Nat.{ℕ, zero, suc, ◌≤◌}
+use native.Mathlib.Omega.{arith}
+use borrow.Author.Rules.{rules}
+use Rattle.std.specs.Prelude.{IsTrue, EachIndex, ◌↔◌, slice_index}
+use Rattle.poly.proofs.Ranges.{inside, within, neither}
 use Rattle.trial.specs.Trial.{any_unprintable}
 use Rattle.trial.proofs.printable.Goals as goal
 
--- In a turn the byte at i comes first of those left.
-first : (bytes : List ℕ) (i : ℕ) → i < length bytes → any_unprintable bytes ≡ any_unprintable (drop i bytes)
-    → any_unprintable bytes ≡ (outside 32 126 (get_or bytes i 0) || any_unprintable (drop (suc i) bytes))
-first bytes i h e = rw (drop-cons bytes i 0 h) at e
+abbrev Printable : List ℕ → Type 0
+Printable bytes = EachIndex bytes (λ k. (32 ≤ slice_index bytes k) × (slice_index bytes k ≤ 126))
 
-pub returns-then-byte-lt32 : goal.returns-then-byte-lt32
-returns-then-byte-lt32 c = rw (first _ _ c.loop-i-test.true c.loop-i.invariant, outside_below 32 126 c.if-byte-lt32.true)
+none_unprintable : (bytes : List ℕ) → Printable bytes → any_unprintable bytes ≡ false
+none_unprintable [] p = refl
+none_unprintable (byte ∷ bytes) p =
+    let first = p 0 (omega arith) in
+    rw (inside 32 126 first.0 first.1) (none_unprintable bytes (λ k h. p (suc k) (omega arith)))
 
-pub returns-then-byte-gt126 : goal.returns-then-byte-gt126
-returns-then-byte-gt126 c = rw (first _ _ c.loop-i-test.true c.loop-i.invariant, outside_above 32 126 c.if-byte-gt126.true)
+each_printable : (bytes : List ℕ) → any_unprintable bytes ≡ false → Printable bytes
+each_printable [] e k h = absurd (omega arith)
+each_printable (byte ∷ bytes) e zero h = within 32 126 (neither _ _ e).0
+each_printable (byte ∷ bytes) e (suc k) h = each_printable bytes (neither _ _ e).1 k (omega arith)
 
-pub loop-i-preserved : goal.loop-i-preserved
-loop-i-preserved c =
-    rw (first _ _ c.loop-i-test.true c.loop-i.invariant, inside 32 126 c.if-byte-lt32.false c.if-byte-gt126.false, add-one)
+decided : (bytes : List ℕ) (r : Bool) → (IsTrue r ↔ Printable bytes) → r ≡ not (any_unprintable bytes)
+decided bytes true e = rw (none_unprintable bytes (e.0 refl))
+decided bytes false e = go (any_unprintable bytes) refl
+  where
+    go : (b : Bool) → any_unprintable bytes ≡ b → false ≡ not (any_unprintable bytes)
+    go true q = rw q
+    go false q = let wrong : false ≡ true = e.1 (each_printable bytes q) in absurd (true≢false (cc))
 
 pub returns : goal.returns
-returns c = rw (c.loop-i.invariant, drop_of_length-le c.args.bytes.now c.loop-i-test.false)
+returns c = decided c.args.bytes.now c.all.result (search rules)
