@@ -6,12 +6,6 @@ ghost use Rattle.leb128.specs.Inner.{parse_more};
 
 use reply::Refusal;
 
-fn wide(byte: u8) -> u64
-    ensures { result ≡ byte }
-{
-    byte as u64
-}
-
 // The number at a position of the file, with the position behind it.
 pub fn read_number(file: &[u8], at: usize) -> Result<(u64, usize), Refusal>
     ensures { Reads number file.now at result }
@@ -19,7 +13,7 @@ pub fn read_number(file: &[u8], at: usize) -> Result<(u64, usize), Refusal>
     if file.len() <= at {
         return Err(Refusal::FileEnds);
     }
-    let byte = wide(file[at]);
+    let byte = u64::from(file[at]);
     if byte < 128 {
         return Ok((byte, at + 1));
     }
@@ -31,10 +25,7 @@ fn ninth_end(file: &[u8], at: usize) -> usize
     requires { at ≤ length file.now }
     ensures { result ≡ min (length file.now) (at + 8) }
 {
-    if file.len() - at < 8 {
-        return file.len();
-    }
-    at + 8
+    at + (file.len() - at).min(8)
 }
 
 // The number from behind its first byte on, which has the high bit set and the group `low`. The tenth byte stands apart: of its group only
@@ -46,25 +37,22 @@ fn read_more(file: &[u8], at: usize, low: u64) -> Result<(u64, usize), Refusal>
     let end = ninth_end(file, at);
     let mut value = low;
     let mut unit: u64 = 128;
-    let mut next = at;
-    while next < end {
-        let byte = wide(file[next]);
-        next += 1;
+    for next in at..end {
+        let byte = u64::from(file[next]);
         if byte < 128 {
             if byte == 0 {
                 return Err(Refusal::NumberForm);
             }
-            return Ok((value + unit * byte, next));
+            return Ok((value + unit * byte, next + 1));
         }
         value += unit * (byte % 128);
         unit *= 128;
     }
-    if file.len() <= next {
+    if file.len() <= end {
         return Err(Refusal::FileEnds);
     }
-    let last = wide(file[next]);
-    if last != 1 {
+    if file[end] != 1 {
         return Err(Refusal::NumberForm);
     }
-    Ok((value + unit, next + 1))
+    Ok((value + unit, end + 1))
 }

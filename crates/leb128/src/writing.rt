@@ -45,10 +45,7 @@ fn fits(room: usize, at: usize, value: u64) -> bool
         return false;
     }
     let left = room - at;
-    if 10 <= left {
-        return true;
-    }
-    width(value) <= left
+    10 <= left || width(value) <= left
 }
 
 // Puts a number at a position of `out`, and gives the position behind it. Where it does not fit, nothing is put.

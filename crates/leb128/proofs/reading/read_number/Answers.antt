@@ -17,7 +17,7 @@ pub returns-then-byte-lt128 : goal.returns-then-byte-lt128
 unfolding parse_number
 returns-then-byte-lt128 c =
     let a = c.args in
-    let w = c.wide-byte in
+    let w = c.from-byte in
     let small = c.if-byte-lt128.true in
     record {
       says =
@@ -32,7 +32,7 @@ pub returns : goal.returns
 unfolding parse_number
 returns c =
     let a = c.args in
-    let w = c.wide-byte in
+    let w = c.from-byte in
     let there = c.if-file-at.false in
     record {
       says =
