@@ -2,79 +2,62 @@
 // tests/lent_reference.py.
 #![tactic(auto)]
 
+use pairs::Pair;
 use reply::Refusal;
+use std::fmt::Display;
 use std::io;
-use trial_reader::ReadTrial;
-use walk::{Next, Walk};
+use walk::Walk;
 
-fn text(rt: &impl Print, bytes: &[u8]) -> io::Result<()> {
-    rt.write_all(bytes)
-}
-
-fn number(rt: &impl Print, n: u64) -> io::Result<()> {
-    print!(rt; " {n}")
-}
-
-fn refused(rt: &impl Print, refusal: Refusal) -> io::Result<()> {
-    text(rt, b" refused")?;
-    number(rt, refusal.number() as u64)
-}
-
-fn next(rt: &impl Print, answer: Next) -> io::Result<()> {
-    match answer {
-        Next::Codes(f, g) => {
-            number(rt, f as u64)?;
-            number(rt, g as u64)?;
-        }
-        Next::Spent => text(rt, b" spent")?,
-        Next::Refused(refusal) => refused(rt, refusal)?,
+fn numbers<T: Display>(rt: &impl Print, list: &[T]) -> io::Result<()> {
+    for number in list {
+        print!(rt; " {number}")?;
     }
     Ok(())
 }
 
-// A look and a draw over one lent record, and the record after them.
-fn turn(rt: &impl Print, walk: &mut Walk, bonder: u32) -> io::Result<()> {
-    text(rt, b"look:")?;
-    next(rt, walk::look_at(walk))?;
-    text(rt, b" draw:")?;
-    next(rt, walk::draw(walk, bonder))?;
-    text(rt, b" record:")?;
-    number(rt, walk.degree as u64)?;
-    number(rt, walk.position)?;
-    for i in 0..8usize {
-        number(rt, walk.marks[i])?;
-    }
-    for i in 0..8usize {
-        number(rt, walk.counts[i])?;
-    }
-    number(rt, walk.f as u64)?;
-    number(rt, walk.g as u64)?;
-    text(rt, b"\n")
+fn refused(rt: &impl Print, refusal: Refusal) -> io::Result<()> {
+    print!(rt; " refused {}", refusal.number())
 }
 
-// Turns over a record whose mark 5 is `mark` and whose count 6 is `given`, the others 0, and which holds a pair that is in no list; each
-// draws for the bonder.
-fn turns(
-    rt: &impl Print,
-    degree: u32,
-    position: u64,
-    mark: u64,
-    given: u64,
-    bonder: u32,
-    times: u64,
-) -> io::Result<()> {
+fn next(rt: &impl Print, answer: Result<Option<Pair>, Refusal>) -> io::Result<()> {
+    match answer {
+        Ok(Some(pair)) => print!(rt; " {} {}", pair.f, pair.g),
+        Ok(None) => print!(rt; " spent"),
+        Err(refusal) => refused(rt, refusal),
+    }
+}
+
+// A look and a draw over one lent record, and the record after them.
+fn turn(rt: &impl Print, walk: &mut Walk, bonder: u32) -> io::Result<()> {
+    print!(rt; "look:")?;
+    next(rt, walk.look())?;
+    print!(rt; " draw:")?;
+    next(rt, walk.draw(bonder))?;
+    print!(rt; " record: {} {}", walk.degree, walk.position)?;
+    numbers(rt, &walk.marks)?;
+    numbers(rt, &walk.counts)?;
+    println!(rt; " {} {}", walk.f, walk.g)
+}
+
+// A record whose mark 5 is `mark` and whose count 6 is `given`, the others 0, and which holds a pair that is in no list.
+fn lent(degree: u32, position: u64, mark: u64, given: u64) -> Walk {
     let mut marks = [0u64; 8];
     marks[5] = mark;
     let mut counts = [0u64; 8];
     counts[6] = given;
-    let mut walk = Walk {
+    Walk {
         degree,
         position,
         marks,
         counts,
         f: 6,
         g: 12,
-    };
+    }
+}
+
+// Turns over it, each of which draws for the bonder.
+fn turns(rt: &impl Print, record: Walk, bonder: u32, times: u32) -> io::Result<()> {
+    let mut walk = record;
     for _ in 0..times {
         turn(rt, &mut walk, bonder)?;
     }
@@ -86,51 +69,54 @@ fn open(rt: &impl Print, file: &[u8]) -> io::Result<()> {
     let mut forces = [9u16; 64];
     let mut times = [9u16; 64];
     let opened = trial_reader::open(file, &mut powers, &mut forces, &mut times);
-    text(rt, b"open:")?;
+    print!(rt; "open:")?;
     let answer = opened.answer;
     match answer {
-        ReadTrial::Content(content) => {
-            number(rt, content.degree as u64)?;
-            number(rt, content.f as u64)?;
-            number(rt, content.g as u64)?;
-            number(rt, content.name_at as u64)?;
-            number(rt, content.size as u64)?;
-            number(rt, content.version as u64)?;
-            number(rt, content.h as u64)?;
+        Ok(trial) => {
+            print!(rt;
+                " {} {} {} {}",
+                trial.degree, trial.f, trial.g, trial.name_at
+            )?;
+            print!(rt; " {} {} {}", trial.size, trial.version, trial.h)?;
         }
-        ReadTrial::Refused(refusal) => refused(rt, refusal)?,
+        Err(refusal) => refused(rt, refusal)?,
     }
-    text(rt, b" name:")?;
-    let name = opened.name;
-    for i in 0..name.len() {
-        number(rt, name[i] as u64)?;
-    }
-    text(rt, b" levels:")?;
+    print!(rt; " name:")?;
+    numbers(rt, opened.name)?;
+    print!(rt; " levels:")?;
     for i in 0..9usize {
-        number(rt, powers[i] as u64)?;
-        number(rt, forces[i] as u64)?;
-        number(rt, times[i] as u64)?;
+        print!(rt; " {} {} {}", powers[i], forces[i], times[i])?;
     }
-    text(rt, b"\n")
+    println!(rt; "")
 }
 
 fn main(rt: HostRuntime) -> io::Result<()> {
-    turns(&rt, 3, 0, 0, 0, 6, 12)?;
-    turns(&rt, 3, 0, 11, 5, 0, 1)?;
-    turns(&rt, 3, 0, 12, 0, 0, 1)?;
-    turns(&rt, 3, 0, 0, 999999999999999999, 6, 3)?;
-    turns(&rt, 3, 0, 0, 1000000000000000000, 7, 1)?;
-    turns(&rt, 3, 10, 0, 1000000000000000000, 6, 1)?;
-    turns(&rt, 3, 0, 0, 1000000000000000001, 7, 1)?;
-    turns(&rt, 3, 0, 0, 18446744073709551615, 8, 1)?;
-    turns(&rt, 3, 0, 0, 0, 8, 1)?;
-    turns(&rt, 3, 10, 0, 0, 4294967295, 1)?;
-    turns(&rt, 1, 0, 1, 0, 7, 2)?;
-    turns(&rt, 31, 768614336404564648, 768614336404564651, 0, 6, 4)?;
-    turns(&rt, 31, 768614336404564650, 18446744073709551615, 0, 0, 1)?;
-    turns(&rt, 31, 768614336404564651, 0, 0, 0, 1)?;
-    turns(&rt, 0, 0, 0, 0, 0, 1)?;
-    turns(&rt, 32, 0, 0, 0, 0, 1)?;
+    turns(&rt, lent(3, 0, 0, 0), 6, 12)?;
+    turns(&rt, lent(3, 0, 11, 5), 0, 1)?;
+    turns(&rt, lent(3, 0, 12, 0), 0, 1)?;
+    turns(&rt, lent(3, 0, 0, 999999999999999999), 6, 3)?;
+    turns(&rt, lent(3, 0, 0, 1000000000000000000), 7, 1)?;
+    turns(&rt, lent(3, 10, 0, 1000000000000000000), 6, 1)?;
+    turns(&rt, lent(3, 0, 0, 1000000000000000001), 7, 1)?;
+    turns(&rt, lent(3, 0, 0, 18446744073709551615), 8, 1)?;
+    turns(&rt, lent(3, 0, 0, 0), 8, 1)?;
+    turns(&rt, lent(3, 10, 0, 0), 4294967295, 1)?;
+    turns(&rt, lent(1, 0, 1, 0), 7, 2)?;
+    turns(
+        &rt,
+        lent(31, 768614336404564648, 768614336404564651, 0),
+        6,
+        4,
+    )?;
+    turns(
+        &rt,
+        lent(31, 768614336404564650, 18446744073709551615, 0),
+        0,
+        1,
+    )?;
+    turns(&rt, lent(31, 768614336404564651, 0, 0), 0, 1)?;
+    turns(&rt, lent(0, 0, 0, 0), 0, 1)?;
+    turns(&rt, lent(32, 0, 0, 0), 0, 1)?;
     let file = b"\x01\x02\x07\x05\x64\x6E\x78\x82\x01\xC8\x01\xDC\x01\xF0\x01\x84\x02\x03A~ \x00";
     open(&rt, &file[..21])?;
     open(&rt, &file[..20])?;
