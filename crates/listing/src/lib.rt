@@ -5,12 +5,12 @@
 ghost use Rattle.std.specs.Prelude.{[], ◌∷◌, map, ◌≡◌, ℕ, ◌-◌, ◌*◌, ◌^◌, ◌≤◌, ◌<◌, leb, length};
 ghost use Rattle.poly.specs.Code.{add, mul};
 ghost use Rattle.pairs.specs.Words.{words_from};
-ghost use Rattle.pairs.specs.Sequences.{block, compositions};
+ghost use Rattle.pairs.specs.Sequences.{block as block_of};
 ghost use Rattle.pairs.specs.Pairs.{build, pairs};
 ghost use Rattle.listing.specs.Replies.{filled_reply, from_reply, from_content};
 ghost use Rattle.listing.specs.Filling.{Written, Ready, HeadsOf, state_of, onward};
 
-use pairs::{share, word_count};
+use pairs::{Block, share, word_count};
 use poly::Degree;
 use reply::Refusal;
 
@@ -30,74 +30,54 @@ pub fn pairs_from(n: u32, position: u64, out: &mut [u32]) -> Result<usize, Refus
     Ok(fill_list(n, position, out))
 }
 
-// The same for a degree that has pairs, block by block: the pairs of 2 quotients, of 3, and so on. `skip` pairs of what is to come are left
-// out, and `count` is the number of compositions of n into k parts, each from the one before.
+// The same for a degree that has pairs, block by block. `skip` pairs of what is to come are left out.
 fn fill_list(n: u32, position: u64, out: &mut [u32]) -> usize
     requires { (2 ≤ n) × (n ≤ 31) }
     ensures { Written (pairs n) position out.old 0 out.new result }
 {
-    let mut k = 2;
-    let mut count = n - 1;
+    let mut block = Block::first(n);
     let mut skip = position;
-    let mut done = 0;
-    while k <= n {
-        if out.len() / 2 <= done {
-            return done;
-        }
-        let groups = (count as u64) << (n - k);
-        done = fill_block(n, k, count, groups, skip, out, done);
-        skip = less(skip, groups * word_count(k as usize));
-        count = share(count * (n - k), k);
-        k += 1;
+    let mut done = fill_block(block, skip, out, 0);
+    while block.k < n && done < out.len() / 2 {
+        skip = skip.saturating_sub(block.size());
+        block = block.next();
+        done = fill_block(block, skip, out, done);
     }
     done
 }
 
-// The pairs of k quotients behind the first `skip`, written behind the `done` pairs that out holds; gives how many it holds then. The first
+// The pairs of a block behind the first `skip`, written behind the `done` pairs that out holds; gives how many it holds then. The first
 // group may be begun in its middle.
-fn fill_block(
-    n: u32,
-    k: u32,
-    count: u32,
-    groups: u64,
-    skip: u64,
-    out: &mut [u32],
-    done: usize,
-) -> usize
-    requires { (2 ≤ k) × (k ≤ n) × (n ≤ 31) × (count ≡ length (compositions n k)) × (groups ≡ count * 2 ^ (n - k)) }
-    ensures { Written (map build (block n k)) skip out.old done out.new result }
+fn fill_block(block: Block, skip: u64, out: &mut [u32], done: usize) -> usize
+    ensures { Written (map build (block_of block.n block.k)) skip out.old done out.new result }
 {
-    let words = word_count(k as usize);
-    let mut group = skip / words;
-    let mut first = skip % words;
+    let groups = (block.compositions as u64) << (block.n - block.k);
+    let mut first = skip % block.words;
     let mut filled = done;
-    while group < groups {
+    for group in skip / block.words..groups {
         if out.len() / 2 <= filled {
             return filled;
         }
-        let heads = heads_of(n, k, count, group);
-        filled = fill(&heads, k as usize, first, 1, 0, out, filled);
+        let heads = heads_of(block, group);
+        filled = fill(&heads, block.k as usize, first, 1, 0, out, filled);
         first = 0;
-        group += 1;
     }
     filled
 }
 
 // The heads of a group, the last quotient's first. One pass over the n - 1 gaps between n ones: a plus in a gap gives the present head its
 // next bit, a comma ends it. Of the `left` compositions that agree so far, those with a comma in the gap come first.
-fn heads_of(n: u32, k: u32, count: u32, group: u64) -> [u32; 32]
-    requires { (2 ≤ k) × (k ≤ n) × (n ≤ 31) × (count ≡ length (compositions n k)) × (group < count * 2 ^ (n - k)) }
-    ensures { HeadsOf n k group result }
+fn heads_of(block: Block, group: u64) -> [u32; 32]
+    requires { group < block.compositions * 2 ^ (block.n - block.k) }
+    ensures { HeadsOf block.n block.k group result }
 {
     let mut heads = [0u32; 32];
-    let mut index = (group >> (n - k)) as u32;
-    let mut left = count;
-    let mut gaps = n - 1;
-    let mut commas = k - 1;
+    let mut index = (group >> (block.n - block.k)) as u32;
+    let mut left = block.compositions;
+    let mut commas = block.k - 1;
     let mut head = 1;
-    while 0 < gaps {
-        let with_comma = share(left * commas, gaps);
-        gaps -= 1;
+    for gaps in (0..block.n - 1).rev() {
+        let with_comma = share(left * commas, gaps + 1);
         if index < with_comma {
             heads[commas as usize] = head;
             head = 1;
@@ -136,7 +116,7 @@ fn fill(
     let next = turned(heads[m - 1], r, s);
     if m == 1 {
         let one = put(next ^ r, next, skip, out, done);
-        return put(next, next ^ r, less(skip, 1), out, one);
+        return put(next, next ^ r, skip.saturating_sub(1), out, one);
     }
     let half = fill(heads, m - 1, skip, next, r, out, done);
     let rest = rest_of(skip, m - 1, next);
@@ -185,7 +165,7 @@ fn rest_of(skip: u64, m: usize, r: u32) -> u64
     if skip == 0 {
         return 0;
     }
-    less(skip, words_from(m, r))
+    skip.saturating_sub(words_from(m, r))
 }
 
 // How many words of m letters lead from the state of (r, s) to (1,0), whatever s is: as many from (1,1) as from (1,0), and from (0,1) twice
@@ -198,14 +178,4 @@ fn words_from(m: usize, r: u32) -> u64
         return 2 * word_count(m - 1);
     }
     word_count(m)
-}
-
-// The difference, 0 where b is greater.
-fn less(a: u64, b: u64) -> u64
-    ensures { result ≡ a - b }
-{
-    if a < b {
-        return 0;
-    }
-    a - b
 }

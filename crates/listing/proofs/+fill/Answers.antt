@@ -23,7 +23,7 @@ turned-next-requires t c = product_fits c.requires
 pub returns-then-m-eq1 : goal.returns-then-m-eq1
 returns-then-m-eq1 t c =
     last_letter c.requires c.turned-next.ensures c.if-m-eq1.true
-    (leb-false _ _ (sym (c.all_skipped.ensures _) ∙ c.if-all_skipped.false)) c.less.ensures c.put-one.ensures c.put.ensures
+    (leb-false _ _ (sym (c.all_skipped.ensures _) ∙ c.if-all_skipped.false)) c.saturating_sub.ensures c.put-one.ensures c.put.ensures
 
 pub fill-half-requires : goal.fill-half-requires
 fill-half-requires t c =

@@ -4,11 +4,14 @@ use Prim.Native.Nat.{ℕ, ◌+◌, ◌-◌, ◌*◌, ◌/◌, ◌%◌, ◌^◌, 
 use native.Mathlib.Nat.{mod-lt}
 use native.Mathlib.Omega.{arith}
 use lib.ListN.{length}
+use lib.Pow.{shl_exact}
+use Rattle.pairs.specs.declared.block.Block.{Block}
 use Rattle.pairs.specs.Words.{words}
 use Rattle.pairs.specs.Sequences.{compositions, block}
 use Rattle.pairs.specs.Pairs.{build}
 use Rattle.listing.specs.Filling.{Written, onward, HeadsOf}
-use Rattle.pairs.proofs.Words.{tabled_is}
+use Rattle.pairs.proofs.Compositions.{listed_compositions}
+use Rattle.pairs.proofs.Sizes.{parts_lt}
 use Rattle.listing.proofs.Written as written
 use Rattle.listing.proofs.Onward.{some_words}
 use Rattle.listing.proofs.Groups.{made, length_made, block_made, from_group, next_group, no_group, onward_made, first_ready}
@@ -46,22 +49,29 @@ starts n k groups W skip all is pos = record {
   completes = λ new end w. rw (block_made n k) (from_group n k _ W skip is (rw all at w));
 }
 
-counted : (c : goal.After-word_count-words) → c.word_count-words.result ≡ length (words c.args.k)
-counted c = c.word_count-words.ensures ∙ tabled_is c.args.k (omega arith)
+-- how many groups a block has
+module _ (b : Block) where
+  compositions_lt : b.compositions < 2 ^ 31
+  compositions_lt = rw (b.compositions_value, (listed_compositions b.n b.k).long) (parts_lt b.n b.k (omega (arith, b.n_bound)))
 
-positive : (c : goal.After-word_count-words) → 0 < c.word_count-words.result
-positive c = rw (counted c) (some_words c.args.k c.requires.0)
+  shifted : b.compositions * 2 ^ (b.n - b.k) % 2 ^ 64 ≡ b.compositions * 2 ^ (b.n - b.k)
+  shifted = shl_exact 31 (b.n - b.k) 64 compositions_lt (omega (arith, b.n_bound))
 
-pub nonzero_div-group : goal.nonzero_div-group
-nonzero_div-group c = positive c
+  all_groups : b.compositions * 2 ^ (b.n - b.k) % 2 ^ 64 ≡ length (compositions b.n b.k) * 2 ^ (b.n - b.k)
+  all_groups = shifted ∙ ap (λ v. v * 2 ^ (b.n - b.k)) b.compositions_value
+
+  positive : 0 < b.words
+  positive = rw b.words_value (some_words b.k b.le_k)
 
 pub nonzero_rem-first : goal.nonzero_rem-first
-nonzero_rem-first c = positive c
+nonzero_rem-first c = positive c.args.block
+
+pub overflow_step-group : goal.overflow_step-group
+overflow_step-group c = positive c.args.block
 
 pub loop-group-init : goal.loop-group-init
 loop-group-init c =
-    starts c.args.n c.args.k c.args.groups c.word_count-words.result c.args.skip
-    (c.requires.4 ∙ ap (λ v. v * 2 ^ (c.args.n - c.args.k)) c.requires.3) (counted c) (positive c)
+    let b = c.args.block in starts b.n b.k _ b.words c.args.skip (all_groups b) b.words_value (positive b)
 
 pub shape_of-out-then-out-filled : goal.shape_of-out-then-out-filled
 shape_of-out-then-out-filled c = c.loop-group.invariant.long
@@ -70,15 +80,12 @@ pub returns-then-out-filled : goal.returns-then-out-filled
 returns-then-out-filled c = stops_full c.loop-group.invariant c.if-out-filled.true
 
 pub heads_of-heads-requires : goal.heads_of-heads-requires
-heads_of-heads-requires c =
-    let (two, le, few, compositions, all) = c.requires in
-    (two, le, few, compositions, rw all at c.loop-group-test.true)
+heads_of-heads-requires c = rw (shifted c.args.block) at c.loop-group-test.true
 
 pub fill-filled-requires : goal.fill-filled-requires
 fill-filled-requires c =
-    let (two, le, few, compositions, all) = c.requires in
-    let below = c.loop-group-test.true in
-    first_ready c.heads_of-heads.ensures (rw (all, compositions) at below) two le few
+    let b = c.args.block in
+    first_ready c.heads_of-heads.ensures (rw (all_groups b) at c.loop-group-test.true) b.le_k b.k_le_n b.n_bound
 
 pub loop-group-preserved : goal.loop-group-preserved
 loop-group-preserved c =

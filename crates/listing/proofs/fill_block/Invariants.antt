@@ -2,7 +2,7 @@
 -- written of the block.
 use mathlib.Core.List.{List, map}
 use mathlib.Core.Path.{◌≡◌}
-use Prim.Native.Nat.{ℕ, ◌-◌, ◌≤◌}
+use Prim.Native.Nat.{ℕ, ◌≤◌}
 use lib.ListN.{length}
 use Rattle.pairs.specs.Words.{words}
 use Rattle.pairs.specs.Sequences.{block}
@@ -19,7 +19,4 @@ pub record Going (n k groups skip done : ℕ) (old : List ℕ) (out : List ℕ) 
 
 abbrev pub invariant-loop-group : goal.invariant-loop-group
 invariant-loop-group l =
-    Going l.n l.k l.groups l.skip l.done l.initial.out l.out l.group l.first l.filled
-
-abbrev pub decreases-loop-group : goal.decreases-loop-group
-decreases-loop-group l = l.groups - l.group
+    Going l.fn.block.n l.fn.block.k l.groups l.skip l.done l.initial.out l.out l.group l.first l.filled

@@ -3,16 +3,14 @@ use mathlib.Core.List.{List}
 use Prim.Native.Nat.{ℕ, ◌+◌, ◌-◌, ◌*◌, ◌/◌, ◌^◌, ◌<◌}
 use native.Mathlib.Omega.{arith}
 use lib.ListN.{replicate}
+use Rattle.pairs.specs.declared.block.Block.{Block}
 use Rattle.pairs.proofs.Gaps.{share_fits, share_computed, comma_left, plus_left, share_le}
 use Rattle.listing.proofs.Heads.{Between, begins, commas_lt, head_fits, comma_turn, plus_turn, finished}
 use Rattle.listing.proofs.heads_of.Goals as goal
 
-first : (c : goal.Start)
-    → Between c.args.n c.args.k c.args.group (replicate 32 0) (c.args.group / 2 ^ (c.args.n - c.args.k)) c.args.count
-    (c.args.n - 1) (c.args.k - 1) 1
-first c =
-    let a = c.args in
-    begins a.n a.k a.count a.group (replicate 32 0) c.requires.0 c.requires.1 c.requires.2 c.requires.3 c.requires.4 refl
+first : (b : Block) (i : ℕ) → i < b.compositions * 2 ^ (b.n - b.k)
+    → Between b.n b.k i (replicate 32 0) (i / 2 ^ (b.n - b.k)) b.compositions (b.n - 1) (b.k - 1) 1
+first b i h = begins b.n b.k b.compositions i (replicate 32 0) b.le_k b.k_le_n b.n_bound b.compositions_value h refl
 
 pub overflow_sub-index : goal.overflow_sub-index
 overflow_sub-index c = omega arith
@@ -24,27 +22,22 @@ pub overflow_shr-index : goal.overflow_shr-index
 overflow_shr-index c = omega arith
 
 pub overflow_cast-index-2 : goal.overflow_cast-index-2
-overflow_cast-index-2 c = record { fits = omega (arith, (first c).choices.inside, c.ranges.count.fits) }
-
-pub overflow_sub-gaps : goal.overflow_sub-gaps
-overflow_sub-gaps c = omega arith
+overflow_cast-index-2 c = record { fits = omega (arith, (first c.args.block c.args.group c.requires).choices.inside, c.args.block.compositions_value) }
 
 pub overflow_sub-commas : goal.overflow_sub-commas
 overflow_sub-commas c = omega arith
 
 pub loop-gaps-init : goal.loop-gaps-init
-loop-gaps-init c = first c
+loop-gaps-init c = first c.args.block c.args.group c.requires
 
 pub overflow_mul-left : goal.overflow_mul-left
 overflow_mul-left c = let b = c.loop-gaps.invariant in record { fits = share_fits b.choices (omega (arith, b.few, b.gap)) }
 
 -- the share, as it is computed
 shared : {n k group : ℕ} {heads : List ℕ} {index left gaps commas head x : ℕ} → Between n k group heads index left gaps commas head → 0 < gaps
-    → x ≡ left * commas * (2 ^ 32 / gaps + 1) / 2 ^ 32 → x ≡ left * commas / gaps
-shared b pos e = e ∙ share_computed _ _ b.choices pos (omega (arith, b.few, b.gap))
-
-pub overflow_sub-gaps-in-loop-gaps : goal.overflow_sub-gaps-in-loop-gaps
-overflow_sub-gaps-in-loop-gaps c = c.loop-gaps-test.true
+    → x ≡ left * commas * (2 ^ 32 / (gaps - 1 + 1) + 1) / 2 ^ 32 → x ≡ left * commas / gaps
+shared {gaps = gaps} b pos e =
+    let same : gaps - 1 + 1 ≡ gaps = omega arith in rw same at e ∙ share_computed _ _ b.choices pos (omega (arith, b.few, b.gap))
 
 pub overflow_cast-heads : goal.overflow_cast-heads
 overflow_cast-heads c = omega (arith, commas_lt c.loop-gaps.invariant)

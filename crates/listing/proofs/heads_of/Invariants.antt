@@ -4,8 +4,4 @@ use Rattle.listing.proofs.heads_of.Given as goal
 
 abbrev pub invariant-loop-gaps : goal.invariant-loop-gaps
 invariant-loop-gaps l =
-    Between l.n l.k l.group l.heads l.index l.left l.gaps l.commas l.head
-
-abbrev pub decreases-loop-gaps : goal.decreases-loop-gaps
-decreases-loop-gaps l =
-    l.gaps
+    Between l.fn.block.n l.fn.block.k l.group l.heads l.index l.left l.gaps l.commas l.head

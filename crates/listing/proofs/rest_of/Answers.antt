@@ -4,4 +4,4 @@ use Prim.Native.Nat.{◌-◌}
 use Rattle.listing.proofs.rest_of.Goals as goal
 
 pub returns : goal.returns
-returns c = λ s. c.less.ensures ∙ ap (λ v. c.args.skip - v) (c.words_from.ensures s)
+returns c = λ s. c.saturating_sub.ensures ∙ ap (λ v. c.args.skip - v) (c.words_from.ensures s)
