@@ -1,5 +1,8 @@
 // Checksums of what the reader makes of damaged trial files.
-use crate::random::mixed;
+ghost use Rattle.std.specs.Prelude.{◌≤◌};
+
+use crate::sum::Sum;
+use trial_reader::Content;
 
 // Document 01's file.
 const PLAIN: [u8; 19] = [
@@ -33,191 +36,126 @@ const WIDE_THREE: [u8; 48] = [
     24, 4, 128, 8, 6, 0, 129, 128, 1, 127, 128, 1, 255, 255, 3, 1, 129, 8, 129, 16, 2, 83, 126,
 ];
 
-fn level(x: u16) -> u64 {
-    x as u64
-}
-
-fn levels(sum: u64, slice: &[u16]) -> u64 {
-    let mut total = sum;
-    let mut i: usize = 0;
-    while i < slice.len() {
-        total = mixed(total, level(slice[i]));
-        i += 1;
-    }
-    total
-}
-
-// The reader's answer and the three slices afterwards.
-fn reading(sum: u64, file: &[u8]) -> u64 {
+// The reader's answer behind the three slices.
+fn reading(sum: &mut Sum, file: &[u8]) {
     let mut powers = [7u16; 64];
     let mut forces = [8u16; 64];
     let mut times = [9u16; 64];
     let answer = trial_reader::read(file, &mut powers, &mut forces, &mut times);
-    let s = levels(levels(levels(sum, &powers), &forces), &times);
-    match answer {
-        trial_reader::ReadTrial::Content(content) => {
-            let s = mixed(
-                mixed(mixed(s, content.degree as u64), content.f as u64),
-                content.g as u64,
-            );
-            let s = mixed(mixed(s, content.name_at as u64), content.size as u64);
-            mixed(mixed(s, content.version as u64), content.h as u64)
-        }
-        trial_reader::ReadTrial::Refused(refusal) => mixed(s, refusal.number() as u64),
+    sum.add_all(&powers);
+    sum.add_all(&forces);
+    sum.add_all(&times);
+    sum.add_answer(answer, add_trial);
+}
+
+fn add_trial(sum: &mut Sum, trial: Content) {
+    sum.add(trial.degree);
+    sum.add(trial.f);
+    sum.add(trial.g);
+    sum.add(trial.name_at as u64);
+    sum.add(trial.size as u64);
+    sum.add(trial.version);
+    sum.add(trial.h);
+}
+
+// A part from the front, if there is one so long.
+fn front(sum: &mut Sum, file: &[u8], size: usize) {
+    if let Some(part) = file.get(..size) {
+        reading(sum, part);
     }
 }
 
-// A byte of the file; 0 behind its end.
-fn file_byte(file: &[u8], i: usize) -> u8 {
-    if i < file.len() { file[i] } else { 0 }
-}
-
-// A byte of the file with one byte changed.
-fn changed_byte(file: &[u8], at: usize, value: u8, i: usize) -> u8 {
-    if i == at {
-        return value;
-    }
-    file_byte(file, i)
-}
-
-// A part from the front.
-fn front(sum: u64, file: &[u8], size: usize) -> u64 {
-    if size <= file.len() {
-        reading(sum, &file[..size])
-    } else {
-        sum
-    }
-}
-
-// The same for the array, whose length the type tells behind a loop.
-fn array_front(sum: u64, bytes: &[u8; 64], size: usize) -> u64 {
-    front(sum, bytes, size)
-}
-
-// The file with one byte changed.
-fn changed(sum: u64, file: &[u8], at: usize, value: u8) -> u64 {
+// The file with other bytes behind it, which are 0.
+fn padded(file: &[u8]) -> [u8; 64] {
     let mut bytes = [0u8; 64];
-    for i in 0..64usize {
-        bytes[i] = changed_byte(file, at, value, i);
+    for (byte, from) in bytes.iter_mut().zip(file) {
+        *byte = *from;
     }
-    array_front(sum, &bytes, file.len())
+    bytes
 }
 
 // The file with every value at one place.
-fn values(sum: u64, file: &[u8], at: usize) -> u64 {
-    let mut total = sum;
-    for value in 0..256u32 {
-        total = changed(total, file, at, (value % 256) as u8);
+fn values(sum: &mut Sum, file: &[u8], at: usize) {
+    let mut bytes = padded(file);
+    for value in 0..=255u8 {
+        if let Some(byte) = bytes.get_mut(at) {
+            *byte = value;
+        }
+        front(sum, &bytes, file.len());
     }
-    total
 }
 
-// Every change of one byte.
-fn changes(sum: u64, file: &[u8]) -> u64 {
-    let mut total = sum;
-    let mut i: usize = 0;
-    while i < file.len() {
-        total = values(total, file, i);
-        i += 1;
+// Every change of one byte. Then every part from the front, the whole file last.
+fn damaged(sum: &mut Sum, file: &[u8]) {
+    for at in 0..file.len() {
+        values(sum, file, at);
     }
-    total
-}
-
-// Every part from the front, the whole file last.
-fn truncations(sum: u64, file: &[u8]) -> u64 {
-    let mut total = sum;
-    let mut i: usize = 0;
-    while i < file.len() {
-        total = front(total, file, i);
-        i += 1;
+    for size in 0..=file.len() {
+        front(sum, file, size);
     }
-    reading(total, file)
 }
 
-fn damaged(sum: u64, file: &[u8]) -> u64 {
-    truncations(changes(sum, file), file)
-}
-
-pub fn damaged_sum() -> u64 {
-    let s = damaged(damaged(0, &PLAIN), &WIDE);
-    damaged(damaged(s, &NAMELESS), &SHUFFLED)
+pub fn damaged_sum() -> Sum {
+    let mut sum = Sum::new();
+    damaged(&mut sum, &PLAIN);
+    damaged(&mut sum, &WIDE);
+    damaged(&mut sum, &NAMELESS);
+    damaged(&mut sum, &SHUFFLED);
+    sum
 }
 
 // The same for files of version 2.
-pub fn damaged3_sum() -> u64 {
-    damaged(damaged(0, &THREE), &WIDE_THREE)
+pub fn damaged3_sum() -> Sum {
+    let mut sum = Sum::new();
+    damaged(&mut sum, &THREE);
+    damaged(&mut sum, &WIDE_THREE);
+    sum
 }
 
-// A byte of the first file of version 2 with the i-th three of the codes from 7 to 16.
-fn coded_byte(i: u32, at: usize) -> u8 {
-    if at == 2 {
-        return (7 + i / 100 % 10) as u8;
+// The first file of version 2 with every three of the codes from 7 to 16.
+pub fn coded_sum() -> Sum {
+    let mut sum = Sum::new();
+    let mut bytes = THREE;
+    for f in 7..17 {
+        for g in 7..17 {
+            for h in 7..17 {
+                bytes[2] = f;
+                bytes[3] = g;
+                bytes[4] = h;
+                reading(&mut sum, &bytes);
+            }
+        }
     }
-    if at == 3 {
-        return (7 + i / 10 % 10) as u8;
-    }
-    if at == 4 {
-        return (7 + i % 10) as u8;
-    }
-    if at < 30 { THREE[at] } else { 0 }
-}
-
-fn coded(sum: u64, i: u32) -> u64 {
-    let mut bytes = [0u8; 64];
-    for at in 0..64usize {
-        bytes[at] = coded_byte(i, at);
-    }
-    array_front(sum, &bytes, 30)
-}
-
-// The file with every three of them.
-pub fn coded_sum() -> u64 {
-    let mut total: u64 = 0;
-    for i in 0..1000u32 {
-        total = coded(total, i);
-    }
-    total
+    sum
 }
 
 // Document 01's file with a name of `size` letters, as far as 64 bytes go.
-fn named_byte(size: u8, i: usize) -> u8 {
-    if i < 17 {
-        return PLAIN[i];
-    }
-    if i == 17 { size } else { b'A' }
-}
-
-fn named(sum: u64, size: u8) -> u64 {
-    let mut bytes = [0u8; 64];
-    for i in 0..64usize {
-        bytes[i] = named_byte(size, i);
-    }
-    array_front(sum, &bytes, 18 + size as usize)
+fn named(sum: &mut Sum, size: u8) {
+    let mut bytes = [b'A'; 64];
+    bytes[..17].copy_from_slice(&PLAIN[..17]);
+    bytes[17] = size;
+    front(sum, &bytes, 18 + size as usize);
 }
 
 // Document 01's entries on files without the mark: names of 40 and 41 bytes, 82 00 for a version. Then a version of 33 bits.
-pub fn entries_sum() -> u64 {
-    let s = named(named(0, 40), 41);
-    let s = reading(s, b"\x82\x00");
-    reading(s, b"\xff\xff\xff\xff\x1f")
+pub fn entries_sum() -> Sum {
+    let mut sum = Sum::new();
+    named(&mut sum, 40);
+    named(&mut sum, 41);
+    reading(&mut sum, b"\x82\x00");
+    reading(&mut sum, b"\xff\xff\xff\xff\x1f");
+    sum
 }
 
 // Where the last byte of a number stands that is written in the form-th of 98 longer ways: there are five to eleven bytes.
-pub fn long_end(form: u32) -> usize {
+pub fn long_end(form: u32) -> usize
+    ensures { result ≤ 10 }
+{
     (form / 14 % 7) as usize + 4
 }
 
-fn long_last(form: u32) -> u8 {
-    match form % 7 {
-        0 => 0,
-        1 => 1,
-        2 => 2,
-        3 => 13,
-        4 => 15,
-        5 => 16,
-        _ => 127,
-    }
-}
+// The last byte in each of seven forms.
+const LONG_LAST: [u8; 7] = [0, 1, 2, 13, 15, 16, 127];
 
 // A byte before the last one: all are 255, or they have the groups of the number that stood there.
 fn long_part(form: u32, old: u8, k: usize) -> u8 {
@@ -225,6 +163,11 @@ fn long_part(form: u32, old: u8, k: usize) -> u8 {
         return 255;
     }
     if k == 0 { old % 128 + 128 } else { 128 }
+}
+
+// A byte of the file; 0 behind its end.
+fn file_byte(file: &[u8], i: usize) -> u8 {
+    file.get(i).copied().unwrap_or(0)
 }
 
 // A byte of the file with the number at one place, which has one byte, written longer.
@@ -238,42 +181,36 @@ fn long_byte(file: &[u8], at: usize, form: u32, i: usize) -> u8 {
         return long_part(form, file_byte(file, at), k);
     }
     if k == end {
-        return long_last(form);
+        return LONG_LAST[(form % 7) as usize];
     }
     file_byte(file, i - end)
 }
 
 pub fn long_file(file: &[u8], at: usize, form: u32) -> [u8; 64] {
     let mut bytes = [0u8; 64];
-    for i in 0..64usize {
-        bytes[i] = long_byte(file, at, form, i);
+    for (i, byte) in bytes.iter_mut().enumerate() {
+        *byte = long_byte(file, at, form, i);
     }
     bytes
 }
 
 // The first file of version 2, whose numbers have one byte each, with a longer number: cut before the number's last byte, cut behind it,
 // and whole.
-fn long(sum: u64, at: usize, form: u32) -> u64 {
+fn long(sum: &mut Sum, at: usize, form: u32) {
     let bytes = long_file(&THREE, at, form);
-    let end = long_end(form) % 16;
-    let s = front(sum, &bytes, at % 64 + end);
-    let s = front(s, &bytes, at % 64 + end + 1);
-    front(s, &bytes, 30 + end)
-}
-
-fn long_forms(sum: u64, at: usize) -> u64 {
-    let mut total = sum;
-    for form in 0..98u32 {
-        total = long(total, at, form);
+    let end = long_end(form);
+    for size in [at % 64 + end, at % 64 + end + 1, 30 + end] {
+        front(sum, &bytes, size);
     }
-    total
 }
 
 // The file with every number written longer.
-pub fn long_sum() -> u64 {
-    let mut total: u64 = 0;
-    for at in 0..30usize {
-        total = long_forms(total, at);
+pub fn long_sum() -> Sum {
+    let mut sum = Sum::new();
+    for at in 0..30 {
+        for form in 0..98 {
+            long(&mut sum, at, form);
+        }
     }
-    total
+    sum
 }

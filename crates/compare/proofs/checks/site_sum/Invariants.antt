@@ -1,9 +1,0 @@
--- `site_sum` ends: its loop counts up to its end.
-use Rattle.std.proofs.Common.{◌-◌, ◌≤◌}
-use Rattle.compare.proofs.checks.site_sum.Given as goal
-
-abbrev pub invariant-loop-i : goal.invariant-loop-i
-invariant-loop-i l = l.i ≤ 3000
-
-abbrev pub decreases-loop-i : goal.decreases-loop-i
-decreases-loop-i l = 3000 - l.i

@@ -1,9 +1,0 @@
--- `spread_found` ends: its loop counts up to its end.
-use Rattle.std.proofs.Common.{◌-◌, ◌≤◌}
-use Rattle.compare.proofs.lists.spread_found.Given as goal
-
-abbrev pub invariant-loop-i : goal.invariant-loop-i
-invariant-loop-i l = l.i ≤ 100
-
-abbrev pub decreases-loop-i : goal.decreases-loop-i
-decreases-loop-i l = 100 - l.i
