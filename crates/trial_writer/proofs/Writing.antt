@@ -1,22 +1,25 @@
 -- What the writer promises, from its decision on the content: refused, too little room, or the bytes put.
-use mathlib.Core.Path.{◌≡◌, sym, ◌∙◌}
+use mathlib.Core.Bool.{true}
+use Rattle.poly.specs.Limits.{outside}
+use mathlib.Core.Path.{◌≡◌, refl, sym, ◌∙◌}
 use Prim.Native.Nat.{ℕ, ◌^◌, ◌≤◌, ◌<◌}
 use mathlib.Core.List.{List, [], ◌∷◌}
 use native.Mathlib.Omega.{arith}
-use lib.ListN.{length}
+use lib.ListN.{length, get_or}
+use Rattle.std.specs.Prelude.{Option, None, Some, Ok, Err}
 use borrow.Author.Tests.{lt-ltb, le-ltb}
 use Rattle.reply.specs.Numbers.{number_of}
 use Rattle.reply.specs.Reply.{served, refused, unless, over}
 use Rattle.reply.proofs.Order.{passed, failed, kept, none_applies}
 use Rattle.reply.specs.declared.Refusal.{Refusal}
-use Rattle.std.specs.Prelude.{Ok, Err}
 use Rattle.leb128.specs.Writing.{Puts}
 use Rattle.leb128.proofs.Putting.{front_put}
 use Rattle.trial.specs.Trial.{Trial, trial_from, encode}
 use Rattle.trial.specs.Replies.{list_of, content_causes, room_causes, write_reply}
-use Rattle.trial_writer.specs.Inner.{Short}
+use Rattle.trial_writer.specs.Inner.{lists_from, trial_of, FewTimes, Short}
+use Rattle.trial_writer.specs.declared.content.Third.{Third}
+use Rattle.trial_writer.specs.declared.content.Content.{Content}
 use Rattle.trial_writer.specs.Answers.{WriteDone}
-use Rattle.trial_writer.proofs.Versions.{has_second}
 use Rattle.trial.proofs.Order.{order_few}
 use Rattle.trial.proofs.Content.{Sound, sound}
 
@@ -39,7 +42,8 @@ module _ (t : Trial) (out : List ℕ) where
     pub put_write : {r : ℕ} {out' : List ℕ} → length (encode t) ≤ length out → Puts out 0 (encode t) r out'
         → WriteDone t out (Ok r) out'
     put_write h p =
-        let e : write_reply t (length out) ≡ served (length (encode t) ∷ []) = last_cause ∙ rw (le-ltb (length out) (length (encode t)) h) in
+        let e : write_reply t (length out) ≡ served (length (encode t) ∷ []) =
+        last_cause ∙ rw (le-ltb (length out) (length (encode t)) h) in
         let (next, after) = front_put h p in
         record { reply = rw (e, next); after = rw (e, after) }
 
@@ -48,19 +52,23 @@ few t s k h =
     let order : 2 ^ t.head.degree ≤ 64 = order_few t.head.degree s.degree in
     omega (arith, (s.lists k h).long)
 
+all_few : (powers forces : List ℕ) (third : Option Third)
+    → let lists = lists_from powers forces third in
+    ((k : ℕ) → k < length lists → length (get_or lists k []) ≤ 64)
+    → (length powers ≤ 64) × (length forces ≤ 64) × FewTimes third
+all_few powers forces None h = (h 0 (omega arith), h 1 (omega arith), tt)
+all_few powers forces (Some third) h = (h 0 (omega arith), h 1 (omega arith), h 2 (omega arith))
+
 -- What is accepted is short.
-pub short : (v n : ℕ) (codes powers forces times name : List ℕ)
-    → let t : Trial = trial_from v n codes (powers ∷ forces ∷ times ∷ []) name in
-    served [] ≡ unless (content_causes t) (served [])
-    → Short v powers forces times name
-short v n codes powers forces times name accepted =
-    let t : Trial = trial_from v n codes (powers ∷ forces ∷ times ∷ []) name in
+pub short : (content : Content) → served [] ≡ unless (content_causes (trial_of content)) (served []) → Short content
+short content accepted =
+    let t = trial_of content in
     let s = sound t (none_applies (content_causes t) [] [] (sym accepted)) in
-    let two = has_second v s.version forces times in
-    record {
-      known = s.version;
-      few_powers = few t s 0 (omega arith);
-      few_forces = rw two at (few t s 1 (rw two (omega arith)));
-      few_times = λ e. rw e at (few t s 2 (rw e (omega arith)));
-      short_name = s.name_short;
-    }
+    let (powers, forces, times) = all_few content.powers.now content.forces.now content.third (few t s) in
+    record { few_powers = powers; few_forces = forces; few_times = times; short_name = s.name_short }
+
+-- There is no such version.
+pub no_version : (v n : ℕ) (codes : List ℕ) (lists : List (List ℕ)) (name : List ℕ) → outside 1 2 v ≡ true
+    → refused 11 ≡ unless (content_causes (trial_from v n codes lists name)) (served [])
+unfolding content_causes
+no_version v n codes lists name e = rw e refl

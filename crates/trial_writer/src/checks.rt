@@ -1,13 +1,13 @@
-// What a content is refused for. In version 1 neither the third code nor the third list is looked at, its length included.
-ghost use Rattle.std.specs.Prelude.{false, ◌≡◌, [], ◌∷◌};
+// What a content is refused for. Version 1 has neither a third code nor a third list that could be looked at.
+ghost use Rattle.std.specs.Prelude.{◌≡◌, []};
 ghost use Rattle.reply.specs.Reply.{served, unless};
-ghost use Rattle.poly.specs.Limits.{outside};
 ghost use Rattle.poly.specs.Replies.{checked_reply};
 ghost use Rattle.trial.specs.Rules.{today};
-ghost use Rattle.trial.specs.Trial.{head_from, trial_from, head_causes};
+ghost use Rattle.trial.specs.Trial.{head_causes};
 ghost use Rattle.trial.specs.Replies.{length_causes, repeat_causes, list_causes, name_causes, content_causes};
-ghost use Rattle.trial_writer.specs.Inner.{lists_from};
+ghost use Rattle.trial_writer.specs.Inner.{head_of, lists_of, trial_of};
 
+use crate::content::Content;
 use codes::check_three;
 use euclid::check_coprime;
 use levels::distinct;
@@ -16,83 +16,62 @@ use reply::Refusal;
 use trial::printable;
 
 // What a head is refused for. The check of three codes judges the degree too.
-fn check_head(version: u32, degree: u32, f: u32, g: u32, h: u32) -> Result<(), Refusal>
-    ensures { checked_reply result ≡ unless (head_causes today (head_from version degree (f ∷ g ∷ h ∷ []))) (served []) }
+fn check_head(content: &Content<'_>) -> Result<(), Refusal>
+    ensures { checked_reply result ≡ unless (head_causes today (head_of content.now)) (served []) }
 {
-    if version < 1 || 2 < version {
-        return Err(Refusal::Version);
+    if let Some(third) = content.third {
+        return check_three(content.degree, content.f, content.g, third.h);
     }
-    if version == 2 {
-        return check_three(degree, f, g, h);
-    }
-    if (Degree { n: degree }).outside_sheets() {
+    if (Degree { n: content.degree }).outside_sheets() {
         return Err(Refusal::SheetDegree);
     }
-    check_coprime(degree, f, g)
+    check_coprime(content.degree, content.f, content.g)
 }
 
-// Whether the lists of a version have so many levels each.
-fn check_lengths(
-    version: u32,
-    count: usize,
-    powers: &[u16],
-    forces: &[u16],
-    times: &[u16],
-) -> Result<(), Refusal>
-    requires { outside 1 2 version ≡ false }
-    ensures { checked_reply result ≡
-        unless (length_causes count (lists_from version powers.now forces.now times.now)) (served []) }
+// Whether the lists have so many levels each.
+fn check_lengths(content: &Content<'_>, count: usize) -> Result<(), Refusal>
+    ensures { checked_reply result ≡ unless (length_causes count (lists_of content.now)) (served []) }
 {
-    if powers.len() != count {
+    if content.powers.len() != count {
         return Err(Refusal::SliceLength);
     }
-    if forces.len() != count {
+    if content.forces.len() != count {
         return Err(Refusal::SliceLength);
     }
-    if version == 1 {
+    let Some(third) = content.third else {
         return Ok(());
-    }
-    if times.len() != count {
+    };
+    if third.times.len() != count {
         return Err(Refusal::SliceLength);
     }
     Ok(())
 }
 
-// Whether the levels differ within each list of a version.
-fn check_levels(version: u32, powers: &[u16], forces: &[u16], times: &[u16]) -> Result<(), Refusal>
-    requires { outside 1 2 version ≡ false }
-    ensures { checked_reply result ≡
-        unless (repeat_causes (lists_from version powers.now forces.now times.now)) (served []) }
+// Whether the levels differ within each list.
+fn check_levels(content: &Content<'_>) -> Result<(), Refusal>
+    ensures { checked_reply result ≡ unless (repeat_causes (lists_of content.now)) (served []) }
 {
-    if !distinct(powers) {
+    if !distinct(content.powers) {
         return Err(Refusal::LevelRepeated);
     }
-    if !distinct(forces) {
+    if !distinct(content.forces) {
         return Err(Refusal::LevelRepeated);
     }
-    if version == 1 {
+    let Some(third) = content.third else {
         return Ok(());
-    }
-    if !distinct(times) {
+    };
+    if !distinct(third.times) {
         return Err(Refusal::LevelRepeated);
     }
     Ok(())
 }
 
-// What the lists of a version are refused for, where each is to have so many levels: all lengths come first.
-fn check_lists(
-    version: u32,
-    count: usize,
-    powers: &[u16],
-    forces: &[u16],
-    times: &[u16],
-) -> Result<(), Refusal>
-    requires { outside 1 2 version ≡ false }
-    ensures { checked_reply result ≡
-        unless (list_causes count (lists_from version powers.now forces.now times.now)) (served []) }
+// What the lists are refused for, where each is to have so many levels: all lengths come first.
+fn check_lists(content: &Content<'_>, count: usize) -> Result<(), Refusal>
+    ensures { checked_reply result ≡ unless (list_causes count (lists_of content.now)) (served []) }
 {
-    check_lengths(version, count, powers, forces, times)?;
-    check_levels(version, powers, forces, times)
+    check_lengths(content, count)?;
+    check_levels(content)
 }
 
 // What a name is refused for.
@@ -109,23 +88,11 @@ fn check_name(name: &[u8]) -> Result<(), Refusal>
 }
 
 // What a content is refused for.
-pub(crate) fn check_content(
-    version: u32,
-    degree: u32,
-    f: u32,
-    g: u32,
-    h: u32,
-    powers: &[u16],
-    forces: &[u16],
-    times: &[u16],
-    name: &[u8],
-) -> Result<(), Refusal>
-    ensures { checked_reply result ≡
-        unless (content_causes (trial_from version degree (f ∷ g ∷ h ∷ [])
-        (powers.now ∷ forces.now ∷ times.now ∷ []) name.now)) (served []) }
+pub(crate) fn check_content(content: &Content<'_>) -> Result<(), Refusal>
+    ensures { checked_reply result ≡ unless (content_causes (trial_of content.now)) (served []) }
 {
-    check_head(version, degree, f, g, h)?;
-    let order = (Degree { n: degree }).order()?;
-    check_lists(version, order as usize, powers, forces, times)?;
-    check_name(name)
+    check_head(content)?;
+    let order = (Degree { n: content.degree }).order()?;
+    check_lists(content, order as usize)?;
+    check_name(content.name)
 }

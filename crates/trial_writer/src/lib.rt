@@ -2,6 +2,7 @@
 #![tactic(auto)]
 
 mod checks;
+mod content;
 mod lists;
 mod names;
 mod writer;

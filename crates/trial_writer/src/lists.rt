@@ -1,11 +1,11 @@
 // Lists of levels.
-ghost use Rattle.std.specs.Prelude.{false, ◌≡◌, ◌+◌, ◌≤◌, length};
-ghost use Rattle.poly.specs.Limits.{outside};
+ghost use Rattle.std.specs.Prelude.{◌≡◌, ◌+◌, ◌≤◌, length};
 ghost use Rattle.leb128.specs.Number.{encode_number, encode_numbers};
 ghost use Rattle.leb128.specs.Writing.{Puts};
 ghost use Rattle.trial.specs.Trial.{encode_lists};
-ghost use Rattle.trial_writer.specs.Inner.{lists_from};
+ghost use Rattle.trial_writer.specs.Inner.{lists_of};
 
+use crate::content::Content;
 use leb128::width;
 
 // How many bytes the levels take.
@@ -51,24 +51,15 @@ pub(crate) fn put_levels(out: &mut [u8], at: usize, levels: &[u16]) -> usize
     next
 }
 
-// Puts the lists of a version, one after the other, and gives the position behind them.
-pub(crate) fn put_lists(
-    out: &mut [u8],
-    at: usize,
-    version: u32,
-    powers: &[u16],
-    forces: &[u16],
-    times: &[u16],
-) -> usize
-    requires known { outside 1 2 version ≡ false }
-    requires room { at + length (encode_lists (lists_from version powers.now forces.now times.now)) ≤ length out.old }
-    ensures { Puts out.old at (encode_lists (lists_from version powers.now forces.now times.now))
-        result out.new }
+// Puts the lists, one after the other, and gives the position behind them.
+pub(crate) fn put_lists(out: &mut [u8], at: usize, content: &Content<'_>) -> usize
+    requires { at + length (encode_lists (lists_of content.now)) ≤ length out.old }
+    ensures { Puts out.old at (encode_lists (lists_of content.now)) result out.new }
 {
-    let at = put_levels(out, at, powers);
-    let at = put_levels(out, at, forces);
-    if version == 1 {
+    let at = put_levels(out, at, content.powers);
+    let at = put_levels(out, at, content.forces);
+    let Some(third) = content.third else {
         return at;
-    }
-    put_levels(out, at, times)
+    };
+    put_levels(out, at, third.times)
 }

@@ -1,14 +1,15 @@
 -- `check_content` meets its contract: the head, the lists and the name are refused for their causes, one after the other.
 use mathlib.Core.Path.{◌≡◌, sym, subst}
-use mathlib.Core.List.{[], ◌∷◌}
+use mathlib.Core.List.{[]}
 use Prim.Native.Nat.{ℕ, ◌^◌}
 use Rattle.std.proofs.lemmas.Result.{err_from_is_err_and}
 use Rattle.reply.specs.Reply.{Reply, served, refused, unless}
 use Rattle.reply.proofs.Order.{NoneApplies, passed, failed, none_applies}
 use Rattle.trial.specs.Rules.{today}
-use Rattle.trial.specs.Trial.{Head, Trial, head_from, trial_from, head_causes}
+use Rattle.trial.specs.Trial.{Head, Trial, head_causes}
 use Rattle.trial.specs.Replies.{list_causes, name_causes, body_causes, content_causes}
 use Rattle.trial.proofs.Order.{order_there, order_is}
+use Rattle.trial_writer.specs.Inner.{head_of, trial_of}
 use Rattle.trial_writer.proofs.checks.check_content.Goals as goal
 
 head_clear : (head : Head) → served [] ≡ unless (head_causes today head) (served []) → NoneApplies (head_causes today head)
@@ -42,35 +43,24 @@ module _ (t : Trial) where
 
 pub returns-in_err-check_head : goal.returns-in_err-check_head
 returns-in_err-check_head c =
-    let a = c.args in
-    let t : Trial =
-    trial_from a.version a.degree (a.f ∷ a.g ∷ a.h ∷ []) (a.powers.now ∷ a.forces.now ∷ a.times.now ∷ []) a.name.now in
     let p = err_from_is_err_and c.from_residual.result c.from_residual.ensures.1 in
-    rw (p.1, p.2) (refused_head t c.in_err-check_head.ensures)
+    rw (p.1, p.2) (refused_head (trial_of c.args.content.now) c.in_err-check_head.ensures)
 
 pub returns-in_err-order : goal.returns-in_err-order
 returns-in_err-order c =
-    let a = c.args in
-    let clear = head_clear (head_from a.version a.degree (a.f ∷ a.g ∷ a.h ∷ [])) c.in_ok-check_head.ensures in
-    absurd (order_there a.degree clear.1.0 c.in_err-order.ensures)
-
-pub check_lists-requires : goal.check_lists-requires
-check_lists-requires c =
-    let a = c.args in (head_clear (head_from a.version a.degree (a.f ∷ a.g ∷ a.h ∷ [])) c.in_ok-check_head.ensures).0
+    let content = c.args.content.now in
+    let clear = head_clear (head_of content) c.in_ok-check_head.ensures in
+    absurd (order_there content.degree clear.1.0 c.in_err-order.ensures)
 
 pub returns-in_err-check_lists : goal.returns-in_err-check_lists
 returns-in_err-check_lists c =
-    let a = c.args in
-    let t : Trial =
-    trial_from a.version a.degree (a.f ∷ a.g ∷ a.h ∷ []) (a.powers.now ∷ a.forces.now ∷ a.times.now ∷ []) a.name.now in
-    let order = order_is a.degree (head_clear t.head c.in_ok-check_head.ensures).1.0 c.in_ok-order.ensures in
+    let content = c.args.content.now in
+    let order = order_is content.degree (head_clear (head_of content) c.in_ok-check_head.ensures).1.0 c.in_ok-order.ensures in
     let p = err_from_is_err_and c.from_residual-in_err-check_lists.result c.from_residual-in_err-check_lists.ensures.1 in
-    rw (p.1, p.2) (refused_lists t c.in_ok-check_head.ensures order c.in_err-check_lists.ensures)
+    rw (p.1, p.2) (refused_lists (trial_of content) c.in_ok-check_head.ensures order c.in_err-check_lists.ensures)
 
 pub returns : goal.returns
 returns c =
-    let a = c.args in
-    let t : Trial =
-    trial_from a.version a.degree (a.f ∷ a.g ∷ a.h ∷ []) (a.powers.now ∷ a.forces.now ∷ a.times.now ∷ []) a.name.now in
-    let order = order_is a.degree (head_clear t.head c.in_ok-check_head.ensures).1.0 c.in_ok-order.ensures in
-    name_decides t c.in_ok-check_head.ensures order c.in_ok-check_lists.ensures c.check_name.ensures
+    let content = c.args.content.now in
+    let order = order_is content.degree (head_clear (head_of content) c.in_ok-check_head.ensures).1.0 c.in_ok-order.ensures in
+    name_decides (trial_of content) c.in_ok-check_head.ensures order c.in_ok-check_lists.ensures c.check_name.ensures

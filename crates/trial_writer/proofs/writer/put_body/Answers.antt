@@ -7,7 +7,7 @@ use Rattle.leb128.specs.Number.{encode_number}
 use Rattle.leb128.specs.Writing.{Puts, PutsFitting}
 use Rattle.leb128.proofs.Putting.{Putting, none_put, bytes_put, part_put, last_put, room_left, room_first}
 use Rattle.trial.specs.Trial.{encode_lists, encode_body}
-use Rattle.trial_writer.specs.Inner.{lists_from}
+use Rattle.trial_writer.specs.Inner.{lists_of}
 use Rattle.trial_writer.proofs.writer.put_body.Goals as goal
 
 parts : (lists : List (List ℕ)) (name : List ℕ) → encode_body lists name ≡ encode_lists lists ++ (encode_number (length name) ++ name)
@@ -16,7 +16,8 @@ parts lists name = simp append_assoc
 
 -- What is put, part by part.
 module _ (lists : List (List ℕ)) (name : List ℕ) where
-  put₀ : (out : List ℕ) (at : ℕ) → Putting out out at at (encode_body lists name) (encode_lists lists ++ (encode_number (length name) ++ name))
+  put₀ : (out : List ℕ) (at : ℕ)
+      → Putting out out at at (encode_body lists name) (encode_lists lists ++ (encode_number (length name) ++ name))
   put₀ out at = none_put out at (parts lists name)
 
   put₂ : {out out₁ out₂ : List ℕ} {at at₁ at₂ : ℕ} → at + length (encode_body lists name) ≤ length out
@@ -27,21 +28,16 @@ module _ (lists : List (List ℕ)) (name : List ℕ) where
 
 pub put_lists-at-requires : goal.put_lists-at-requires
 put_lists-at-requires c =
-    let a = c.args in
-    let lists : List (List ℕ) = lists_from a.version a.powers.now a.forces.now a.times.now in
-    record {
-      known = c.requires.known;
-      room = room_first (encode_lists lists) _ (put₀ lists a.name.now a.out.now a.at) c.requires.room;
-    }
+    let content = c.args.content.now in
+    let lists = lists_of content in
+    room_first (encode_lists lists) _ (put₀ lists content.name.now c.args.out.now c.args.at) c.requires.room
 
 pub put_name-requires : goal.put_name-requires
 put_name-requires c =
-    let a = c.args in
-    let lists : List (List ℕ) = lists_from a.version a.powers.now a.forces.now a.times.now in
-    room_left (put₂ lists a.name.now c.requires.room c.put_lists-at.ensures c.put_number-at.ensures) c.requires.room
+    let content = c.args.content.now in
+    room_left (put₂ (lists_of content) content.name.now c.requires.room c.put_lists-at.ensures c.put_number-at.ensures) c.requires.room
 
 pub returns : goal.returns
 returns c =
-    let a = c.args in
-    let lists : List (List ℕ) = lists_from a.version a.powers.now a.forces.now a.times.now in
-    last_put (put₂ lists a.name.now c.requires.room c.put_lists-at.ensures c.put_number-at.ensures) c.put_name.ensures
+    let content = c.args.content.now in
+    last_put (put₂ (lists_of content) content.name.now c.requires.room c.put_lists-at.ensures c.put_number-at.ensures) c.put_name.ensures

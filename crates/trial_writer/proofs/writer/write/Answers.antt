@@ -1,70 +1,17 @@
--- `write` meets its contract: the content is checked, then the room, and then the head and the body are put.
-use mathlib.Core.Path.{◌≡◌, refl}
-use mathlib.Core.List.{List, [], ◌∷◌, ◌++◌}
-use Prim.Native.Nat.{ℕ, ◌+◌, ◌≤◌}
-use native.Mathlib.Omega.{arith}
-use lib.ListN.{length, length-append}
+-- `write` meets its contract: the version says whether the third code and list are of the content, or it is refused.
+use mathlib.Core.List.{[], ◌∷◌}
 use Rattle.std.proofs.lemmas.Result.{err_from_is_err_and}
-use Rattle.leb128.specs.Writing.{Puts}
-use Rattle.leb128.proofs.Putting.{Putting, none_put, bytes_put, last_put, room_left}
-use Rattle.trial.specs.Trial.{Trial, trial_from, encode_head, encode_body, encode}
-use Rattle.trial_writer.proofs.Writing.{refused_write, content_refused, no_room, put_write, short}
+use Rattle.trial.specs.Trial.{Trial, trial_from}
+use Rattle.trial_writer.proofs.Writing.{refused_write, content_refused, no_version}
 use Rattle.trial_writer.proofs.writer.write.Goals as goal
 
-parts : (t : Trial) → encode t ≡ encode_head t.head ++ encode_body t.lists t.name
-unfolding encode
-parts t = refl
-
-head_fits : (t : Trial) {room : ℕ} → length (encode t) ≤ room → length (encode_head t.head) ≤ room
-head_fits t h = omega (arith, rw (parts t, length-append) at h)
-
--- The head is put, and the body is left.
-head_put : (t : Trial) {out out₁ : List ℕ} {at : ℕ} → Puts out 0 (encode_head t.head) at out₁
-    → Putting out out₁ 0 at (encode t) (encode_body t.lists t.name)
-head_put t {out} p = bytes_put (encode_head t.head) (none_put out 0 (parts t)) p
-
-pub encoded_size-size-requires : goal.encoded_size-size-requires
-encoded_size-size-requires c =
+pub returns-in_err-third : goal.returns-in_err-third
+returns-in_err-third c =
     let a = c.args in
-    short a.version a.degree (a.f ∷ a.g ∷ a.h ∷ []) a.powers.now a.forces.now a.times.now a.name.now c.in_ok-check_content.ensures
-
-pub returns-then-out-size : goal.returns-then-out-size
-returns-then-out-size c =
-    let a = c.args in
-    let t : Trial =
-    trial_from a.version a.degree (a.f ∷ a.g ∷ a.h ∷ []) (a.powers.now ∷ a.forces.now ∷ a.times.now ∷ []) a.name.now in
-    refused_write t a.out.now (no_room t a.out.now c.in_ok-check_content.ensures (rw c.encoded_size-size.ensures at c.if-out-size.true))
-
-pub put_head-at-requires : goal.put_head-at-requires
-put_head-at-requires c =
-    let a = c.args in
-    let t : Trial =
-    trial_from a.version a.degree (a.f ∷ a.g ∷ a.h ∷ []) (a.powers.now ∷ a.forces.now ∷ a.times.now ∷ []) a.name.now in
-    let few = short a.version a.degree (a.f ∷ a.g ∷ a.h ∷ []) a.powers.now a.forces.now a.times.now a.name.now c.in_ok-check_content.ensures in
-    record { known = few.known; room = head_fits t (rw c.encoded_size-size.ensures at c.if-out-size.false) }
-
-pub put_body-requires : goal.put_body-requires
-put_body-requires c =
-    let a = c.args in
-    let t : Trial =
-    trial_from a.version a.degree (a.f ∷ a.g ∷ a.h ∷ []) (a.powers.now ∷ a.forces.now ∷ a.times.now ∷ []) a.name.now in
-    let few = short a.version a.degree (a.f ∷ a.g ∷ a.h ∷ []) a.powers.now a.forces.now a.times.now a.name.now c.in_ok-check_content.ensures in
-    let room = rw c.encoded_size-size.ensures at c.if-out-size.false in
-    let fits : 0 + length (encode t) ≤ length a.out.now = omega (arith, room) in
-    record { known = few.known; room = room_left (head_put t c.put_head-at.ensures) fits; short = few.short_name }
-
-pub returns-in_err-check_content : goal.returns-in_err-check_content
-returns-in_err-check_content c =
-    let a = c.args in
-    let t : Trial =
-    trial_from a.version a.degree (a.f ∷ a.g ∷ a.h ∷ []) (a.powers.now ∷ a.forces.now ∷ a.times.now ∷ []) a.name.now in
+    let codes = a.f ∷ a.g ∷ a.h ∷ [] in
+    let lists = a.powers.now ∷ a.forces.now ∷ a.times.now ∷ [] in
+    let t : Trial = trial_from a.version a.degree codes lists a.name.now in
+    let (none, why) = c.in_err-third.ensures in
     let p = err_from_is_err_and c.from_residual.result c.from_residual.ensures.1 in
-    rw (p.1, p.2) (refused_write t a.out.now (content_refused t a.out.now c.in_err-check_content.ensures))
-
-pub returns : goal.returns
-returns c =
-    let a = c.args in
-    let t : Trial =
-    trial_from a.version a.degree (a.f ∷ a.g ∷ a.h ∷ []) (a.powers.now ∷ a.forces.now ∷ a.times.now ∷ []) a.name.now in
-    put_write t a.out.now c.in_ok-check_content.ensures (rw c.encoded_size-size.ensures at c.if-out-size.false)
-    (last_put (head_put t c.put_head-at.ensures) c.put_body.ensures)
+    rw (p.1, p.2, why)
+    (refused_write t a.out.now (content_refused t a.out.now (no_version a.version a.degree codes lists a.name.now none)))
