@@ -1,8 +1,8 @@
--- The list is its blocks one after the other, as code goes through them: what holds when a block is written.
+-- The list is its blocks one after the other, as code goes through them: what holds before each block.
 use Prim.Native.Nat.{ℕ, suc, ◌+◌, ◌-◌, ◌/◌, ◌≤◌, ◌<◌}
 use native.Mathlib.Numerals.{add-one}
 use native.Mathlib.Omega.{arith}
-use mathlib.Core.Path.{◌≡◌, ap, ◌∙◌}
+use mathlib.Core.Path.{◌≡◌, refl, sym, ap, ap₂, ◌∙◌}
 use mathlib.Core.List.{List, [], ◌++◌, map}
 use lib.ListN.{length, length-map}
 use Rattle.loops.specs.Loops.{numbers, each}
@@ -11,6 +11,9 @@ use Rattle.euclid.specs.Chain.{Pair}
 use Rattle.pairs.specs.Sequences.{block, sequences}
 use Rattle.pairs.specs.Pairs.{build, pairs}
 use Rattle.listing.specs.Filling.{Written}
+use Rattle.pairs.specs.declared.block.Block.{Block}
+use Rattle.pairs.proofs.Stepping.{First, Next}
+use Rattle.std.specs.Prelude.{Option, None, Some}
 use Rattle.listing.proofs.Written.{joined, skipped, full, same_length}
 
 -- The pairs of k and more quotients.
@@ -27,41 +30,50 @@ next_block n k h = let e : suc n - k ≡ suc (suc n - (k + 1)) = omega arith in 
 no_block : (n k : ℕ) → n < k → blocks n k ≡ []
 no_block n k h = let e : suc n - k ≡ 0 = omega arith in rw e
 
--- When block k is written: what will be written of the blocks behind it completes what is to be written of the list.
-pub record Going (n position : ℕ) (old : List ℕ) (out : List ℕ) (m k skip done : ℕ) : Type 0 where
-  pub degree : m ≡ n
+-- The pairs of the blocks from the next one on, if there is one.
+abbrev onward : Option Block → List Pair
+onward None = []
+onward (Some block) = blocks block.n block.k
+
+-- Before the next block: what will be written of the blocks from it on completes what is to be written of the list.
+pub record Going (n position : ℕ) (old : List ℕ) (out : List ℕ) (next : Option Block) (skip done : ℕ) : Type 0 where
   pub long : length out ≡ length old
-  pub completes : (new : List ℕ) (all : ℕ) → Written (blocks n (k + 1)) (skip - length (block n k)) out done new all
-      → Written (pairs n) position old 0 new all
+  pub completes : (new : List ℕ) (all : ℕ) → Written (onward next) skip out done new all → Written (pairs n) position old 0 new all
 
--- of the blocks from k on, block k was written
-written_block : {n k skip done half all : ℕ} {old mid new : List ℕ} → k ≤ n → Written (map build (block n k)) skip old done mid half
-    → Written (blocks n (k + 1)) (skip - length (block n k)) mid half new all → Written (blocks n k) skip old done new all
-written_block {n} {k} {skip} le v w =
-    rw (next_block n k le) (joined v (rw (ap (λ x. skip - x) (length-map (block n k) build)) w))
+-- how many blocks are to come
+abbrev pub left : Option Block → ℕ
+left None = 0
+left (Some block) = suc (block.n - block.k)
 
-pub begins : {n position m k done : ℕ} {old out : List ℕ} → 2 ≤ n → m ≡ n → k ≡ 2 → Written (map build (block m k)) position old 0 out done
-    → Going n position old out m k position done
-begins {n} {position} h e two v = rw two (record {
-  degree = e;
-  long = same_length v;
-  completes = λ new all w. rw (pairs_blocks n (omega arith)) (written_block h (rw (e, two) at v) w);
-})
+from_first : (n : ℕ) (next : Option Block) → First n next → 2 ≤ n → n ≤ 31 → onward next ≡ pairs n
+from_first n None h low high = absurd (h (low, high))
+from_first n (Some block) (degree, quotients) low high = ap₂ blocks degree quotients ∙ sym (pairs_blocks n (omega arith))
 
-module _ {n position m k skip done : ℕ} {old out : List ℕ} (going : Going n position old out m k skip done) where
-  pub stops_full : length out / 2 ≤ done → Written (pairs n) position old 0 out done
-  stops_full h = going.completes out done (full h)
+from_next : (self : Block) (next : Option Block) → Next self next → onward next ≡ blocks self.n (self.k + 1)
+from_next self None h = sym (no_block self.n (self.k + 1) (omega (arith, h)))
+from_next self (Some block) (degree, quotients) = ap₂ blocks degree quotients
 
-  pub stops_done : n ≤ k → Written (pairs n) position old 0 out done
-  stops_done h = going.completes out done (rw (no_block n (k + 1) (omega arith)) (skipped (omega arith)))
+pub fewer : (self : Block) (next : Option Block) → Next self next → left next < left (Some self)
+fewer self None h = omega arith
+fewer self (Some block) (degree, quotients) = omega (arith, degree, quotients, block.k_le_n)
 
-  pub turn : {m' k' rest all : ℕ} {new : List ℕ} → k < n → m' ≡ m → k' ≡ k + 1 → rest ≡ skip - length (block m k)
-      → Written (map build (block m' k')) rest out done new all → Going n position old new m' k' rest all
-  turn {new = new} less e next er v = rw next (record {
-    degree = e ∙ going.degree;
+pub begins : {n position : ℕ} {old : List ℕ} (next : Option Block) → First n next → 2 ≤ n → n ≤ 31 → Going n position old old next position 0
+begins {n} next first low high = record { long = refl; completes = λ new all w. rw (from_first n next first low high) at w }
+
+module _ {n position skip done : ℕ} {old out : List ℕ} where
+  pub stops_full : {next : Option Block} → Going n position old out next skip done → length out / 2 ≤ done
+      → Written (pairs n) position old 0 out done
+  stops_full going h = going.completes out done (full h)
+
+  pub stops_done : {next : Option Block} → Going n position old out next skip done → next ≡ None → Written (pairs n) position old 0 out done
+  stops_done going e = going.completes out done (rw e (skipped (omega arith)))
+
+  pub turn : (self : Block) {now next : Option Block} {rest all : ℕ} {new : List ℕ} → Going n position old out now skip done
+      → now ≡ Some self → Next self next → rest ≡ skip - length (block self.n self.k)
+      → Written (map build (block self.n self.k)) skip out done new all → Going n position old new next rest all
+  turn self {now} {next} going is step er v = record {
     long = same_length v ∙ going.long;
     completes = λ new' all' later.
-        going.completes new' all'
-        (rw (er ∙ ap (λ v. skip - length (block v k)) going.degree)
-        at (written_block (omega arith) (rw (e ∙ going.degree, next) at v) later));
-  })
+        let rest : _ = rw (from_next self next step, er ∙ sym (ap (λ x. skip - x) (length-map (block self.n self.k) build))) at later in
+        going.completes new' all' (rw (is, next_block self.n self.k self.k_le_n) (joined v rest));
+  }

@@ -35,13 +35,16 @@ fn fill_list(n: u32, position: u64, out: &mut [u32]) -> usize
     requires { (2 ≤ n) × (n ≤ 31) }
     ensures { Written (pairs n) position out.old 0 out.new result }
 {
-    let mut block = Block::first(n);
     let mut skip = position;
-    let mut done = fill_block(block, skip, out, 0);
-    while block.k < n && done < out.len() / 2 {
-        skip = skip.saturating_sub(block.size());
-        block = block.next();
+    let mut done = 0;
+    let mut next = Block::first(n);
+    while let Some(block) = next {
+        if out.len() / 2 <= done {
+            return done;
+        }
         done = fill_block(block, skip, out, done);
+        skip = skip.saturating_sub(block.size());
+        next = block.next();
     }
     done
 }

@@ -20,5 +20,6 @@ pub mod Constants
 pub mod Sequence
 pub mod Standing
 pub mod Sizes
+pub mod Stepping
 pub mod Gaps
 pub mod Examples

@@ -1,5 +1,5 @@
 // The list goes by blocks, one for each number k of quotients: block 2, block 3, and so on up to block n.
-ghost use Rattle.std.specs.Prelude.{◌≡◌, ◌+◌, ◌≤◌, ◌<◌, length};
+ghost use Rattle.std.specs.Prelude.{◌≡◌, ◌+◌, ◌≤◌, length, MatchOption};
 ghost use Rattle.pairs.specs.Sequences.{block, compositions as compositions_of};
 ghost use Rattle.pairs.specs.Words.{words as words_of};
 
@@ -20,32 +20,34 @@ pub struct Block {
 }
 
 impl Block {
-    pub fn first(n: u32) -> Block
-        requires le_n { 2 ≤ n }
-        requires n_bound { n ≤ 31 }
-        ensures degree { result.n ≡ n }
-        ensures quotients { result.k ≡ 2 }
+    // The block of 2 quotients, which the list of each degree from 2 to 31 begins with.
+    pub fn first(n: u32) -> Option<Block>
+        ensures { MatchOption result ((2 ≤ n) × (n ≤ 31) → ⊥) (λ block. (block.n ≡ n) × (block.k ≡ 2)) }
     {
-        Block {
+        if n < 2 || 31 < n {
+            return None;
+        }
+        Some(Block {
             n,
             k: 2,
             compositions: n - 1,
             words: 2,
-        }
+        })
     }
 
-    // The block behind it. Each number is made from the one before.
-    pub fn next(self) -> Block
-        requires { self.k < self.n }
-        ensures degree { result.n ≡ self.n }
-        ensures quotients { result.k ≡ self.k + 1 }
+    // The block behind it, but for the last. Each number is made from the one before.
+    pub fn next(self) -> Option<Block>
+        ensures { MatchOption result (self.k ≡ self.n) (λ block. (block.n ≡ self.n) × (block.k ≡ self.k + 1)) }
     {
-        Block {
+        if self.k == self.n {
+            return None;
+        }
+        Some(Block {
             n: self.n,
             k: self.k + 1,
             compositions: share(self.compositions * (self.n - self.k), self.k),
             words: (1u64 << self.k) - self.words,
-        }
+        })
     }
 
     // How many sequences of k quotients there are: one for each composition, word and number of n - k intermediate bits.

@@ -35,11 +35,11 @@ fn seek(n: u32, position: u64) -> Pair
     requires position_in_bounds { position < length (pairs n) }
     ensures { pair_of result ≡ get_or (pairs n) position start }
 {
-    let mut block = Block::first(n);
+    let mut block = Block::first(n).unwrap();
     let mut place = position;
     while block.size() <= place {
         place -= block.size();
-        block = block.next();
+        block = block.next().unwrap();
     }
     pair_in(block, place)
 }

@@ -56,10 +56,10 @@ fn blocks_before(n: u32, k: usize) -> Before
     ensures quotients { result.block.k ≡ k }
 {
     let mut size: u64 = 0;
-    let mut block = Block::first(n);
+    let mut block = Block::first(n).unwrap();
     while (block.k as usize) < k {
         size += block.size();
-        block = block.next();
+        block = block.next().unwrap();
     }
     Before { size, block }
 }

@@ -12,6 +12,7 @@ use Rattle.pairs.specs.Pairs.{start, build, pairs}
 use Rattle.pairs.proofs.Blocks.{block_size, block_at, listed_block}
 use Rattle.pairs.proofs.Sequences.{sequence_at}
 use Rattle.pairs.proofs.Pairs.{length_blocks, pair_at_is}
+use Rattle.pairs.proofs.Stepping.{some_first, first_is, some_next, next_is}
 use Rattle.pairs.proofs.pair.seek.Invariants.{Seeking, at}
 use Rattle.pairs.proofs.pair.seek.Goals as goal
 
@@ -72,15 +73,19 @@ module _ {n position m k place : ℕ} (h : Seeking n position m k place) (high :
       ap (λ v. build (get_or (block v k) place [])) h.degree
       ∙ ap build ((listed_block n k).stands place l ∙ sym here ∙ h.is) ∙ sym (pair_at_is n position start fits)
 
-pub first-block-requires-clause-le_n : goal.first-block-requires-clause-le_n
-first-block-requires-clause-le_n c = two c.args.n c.args.position c.requires.position_in_bounds
+pub unwrap-block-requires : goal.unwrap-block-requires
+unwrap-block-requires c =
+    some_first c.args.n c.first.result c.first.ensures (two c.args.n c.args.position c.requires.position_in_bounds) c.requires.n_bound
 
 pub loop-place-init : goal.loop-place-init
 loop-place-init c =
-    begins c.args.n c.args.position c.requires.position_in_bounds c.first-block.ensures.degree c.first-block.ensures.quotients
+    let (degree, quotients) = first_is c.args.n c.unwrap-block.ensures c.first.ensures in
+    begins c.args.n c.args.position c.requires.position_in_bounds degree quotients
 
-pub next-block-requires : goal.next-block-requires
-next-block-requires c = let l = c.loop-place in another l.invariant l.block.k_le_n _ c.size.ensures c.loop-place-test.true
+pub unwrap-block-requires-in-loop-place : goal.unwrap-block-requires-in-loop-place
+unwrap-block-requires-in-loop-place c =
+    let l = c.loop-place in
+    some_next l.block c.next.result c.next.ensures (another l.invariant l.block.k_le_n _ c.size.ensures c.loop-place-test.true)
 
 pub loop-place-smaller : goal.loop-place-smaller
 loop-place-smaller c =
@@ -88,15 +93,15 @@ loop-place-smaller c =
     omega (
       arith,
       another l.invariant l.block.k_le_n _ c.size.ensures c.loop-place-test.true,
-      c.next-block.ensures.degree,
-      c.next-block.ensures.quotients,
+      next_is l.block c.unwrap-block-in-loop-place.ensures c.next.ensures,
     )
 
 pub loop-place-preserved : goal.loop-place-preserved
 loop-place-preserved c =
     let l = c.loop-place in
+    let (degree, quotients) = next_is l.block c.unwrap-block-in-loop-place.ensures c.next.ensures in
     rw (c.size-place.ensures ∙ sym c.size.ensures)
-    (passes l.invariant l.block.k_le_n _ c.size.ensures c.loop-place-test.true c.next-block.ensures.degree c.next-block.ensures.quotients)
+    (passes l.invariant l.block.k_le_n _ c.size.ensures c.loop-place-test.true degree quotients)
 
 pub returns : goal.returns
 returns c =

@@ -10,8 +10,8 @@ use Rattle.pairs.proofs.block.Block.first.Goals as goal
 pub invariant_of-result : goal.invariant_of-result
 invariant_of-result c = record {
   le_k = omega arith;
-  k_le_n = c.requires.le_n;
-  n_bound = c.requires.n_bound;
+  k_le_n = omega arith;
+  n_bound = omega arith;
   compositions_value = parts_two c.args.n (omega arith) ∙ sym (listed_compositions c.args.n 2).long;
   words_value = sym (listed_words 2).long;
 }

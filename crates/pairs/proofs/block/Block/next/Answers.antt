@@ -30,7 +30,7 @@ invariant_of-result c =
     let b = c.args.self in
     record {
       le_k = omega (arith, b.le_k);
-      k_le_n = omega arith;
+      k_le_n = omega (arith, b.k_le_n);
       n_bound = b.n_bound;
       compositions_value =
           c.share.ensures ∙ (shared b).1 ∙ sym (listed_compositions b.n (b.k + 1)).long;
