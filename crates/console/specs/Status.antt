@@ -1,5 +1,5 @@
 -- A reply in C's terms: the number that a call returns, and what stands behind the pointers that it was lent.
-use Rattle.std.specs.Prelude.{ℕ, List, [], Result, Ok, Err, get_or}
+use Rattle.std.specs.Prelude.{ℕ, [], Result, Ok, Err, get_or}
 use Rattle.reply.specs.Reply.{Reply, served, refused, spent}
 use Rattle.reply.specs.Answers.{answer_reply}
 use Rattle.reply.specs.declared.Refusal.{Refusal}

@@ -1,8 +1,10 @@
 // What a call returns for an answer of the library, and what it stores.
 ghost use Rattle.std.specs.Prelude.{◌≡◌};
-ghost use Rattle.console.specs.Status.{status, value, status_of, stored};
-ghost use Rattle.pairs.specs.Replies.{found_reply};
+ghost use Rattle.walk.specs.Walks.{next_reply};
+ghost use Rattle.console.specs.Status.{status_of, stored};
+ghost use Rattle.console.specs.Records.{Gives};
 
+use crate::SPENT;
 use pairs::Pair;
 use reply::Refusal;
 
@@ -30,18 +32,17 @@ pub(crate) fn store<T: Copy>(answer: Result<T, Refusal>, place: &mut T) -> u32
     }
 }
 
-// The same of a pair, whose codes are stored in f and g.
-pub(crate) fn store_pair(answer: Result<Pair, Refusal>, f: &mut u32, g: &mut u32) -> u32
-    ensures returned { result ≡ status (found_reply answer) }
-    ensures f_after { f.new ≡ value 0 (found_reply answer) f.old }
-    ensures g_after { g.new ≡ value 1 (found_reply answer) g.old }
+// The same of a pair, whose codes are stored in f and g, or spent.
+pub(crate) fn store_next(answer: Result<Option<Pair>, Refusal>, f: &mut u32, g: &mut u32) -> u32
+    ensures { Gives (next_reply answer) f.old g.old f.new g.new result }
 {
     match answer {
-        Ok(pair) => {
+        Ok(Some(pair)) => {
             *f = pair.f;
             *g = pair.g;
             0
         }
+        Ok(None) => SPENT,
         Err(refusal) => refusal.number(),
     }
 }

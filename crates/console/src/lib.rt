@@ -1,5 +1,5 @@
-// The library's calls for C. The return value is 0 for served, the papers' number for refused and 255 for spent. What stands behind a
-// pointer changes only where the call is served.
+// The library's calls for C, with the parameters that include/dinnowell.h declares, pointer by pointer. The return value is 0 for served,
+// the papers' number for refused and 255 for spent. What stands behind a pointer changes only where the call is served.
 #![tactic(auto)]
 
 mod answers;

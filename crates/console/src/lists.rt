@@ -9,7 +9,7 @@ ghost use Rattle.triples.specs.Replies.{triple_at_reply};
 ghost use Rattle.listing.specs.Replies.{from_reply, from_content};
 
 use crate::SPENT;
-use crate::answers::{store, store_pair};
+use crate::answers::{store, store_next};
 use poly::Degree;
 
 // The length of the list of degree n.
@@ -28,7 +28,7 @@ pub extern "C" fn dw_pair_at(n: u32, position: u64, f: &mut u32, g: &mut u32) ->
     ensures f_after { f.new ≡ value 0 (pair_at_reply n position) f.old }
     ensures g_after { g.new ≡ value 1 (pair_at_reply n position) g.old }
 {
-    store_pair(pairs::pair_at(n, position), f, g)
+    store_next(pairs::pair_at(n, position).map(Some), f, g)
 }
 
 // The pair at an entry of the second list of degree n, in which each unordered pair stands once.
@@ -38,7 +38,7 @@ pub extern "C" fn dw_unordered_pair_at(n: u32, entry: u64, f: &mut u32, g: &mut 
     ensures f_after { f.new ≡ value 0 (unordered_reply n entry) f.old }
     ensures g_after { g.new ≡ value 1 (unordered_reply n entry) g.old }
 {
-    store_pair(unordered::pair_at(n, entry), f, g)
+    store_next(unordered::pair_at(n, entry).map(Some), f, g)
 }
 
 // The pairs from a position of the list of degree n on, f and g in turn, as many as fit into the slice; with their count.

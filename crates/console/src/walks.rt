@@ -1,28 +1,9 @@
 // Walks, for C. Each call works on the record that the console lends, which stays as it was where the call is not served.
-ghost use Rattle.walk.specs.Walks.{next_reply};
-ghost use Rattle.console.specs.Records.{Gives, Starts, Looks, Draws, SetsMark, GoesBack};
+ghost use Rattle.console.specs.Records.{Starts, Looks, Draws, SetsMark, GoesBack};
 ghost use Rattle.console.specs.Records.{WalkSaved, Loaded};
 
-use crate::SPENT;
-use crate::answers::{status, store};
-use pairs::Pair;
-use reply::Refusal;
+use crate::answers::{status, store, store_next};
 use walk::Walk;
-
-// The status of an answer to a look or a draw; if it is a pair, its codes are stored in f and g.
-fn store_next(answer: Result<Option<Pair>, Refusal>, f: &mut u32, g: &mut u32) -> u32
-    ensures { Gives (next_reply answer) f.old g.old f.new g.new result }
-{
-    match answer {
-        Ok(Some(pair)) => {
-            *f = pair.f;
-            *g = pair.g;
-            0
-        }
-        Ok(None) => SPENT,
-        Err(refusal) => refusal.number(),
-    }
-}
 
 // Starts a walk of degree n in a record that the console lends.
 #[unsafe(no_mangle)]
