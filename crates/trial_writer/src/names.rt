@@ -7,7 +7,10 @@ pub(crate) fn put_name(out: &mut [u8], at: usize, name: &[u8]) -> usize
     requires { at + length name.now ≤ length out.old }
     ensures { Puts out.old at name.now result out.new }
 {
-    let end = at + name.len();
-    out[at..end].copy_from_slice(name);
-    end
+    // Byte by byte: the compiler is not told that what C lends does not overlap, and would copy it whole by memmove, which the archive may
+    // not ask for.
+    for i in 0..name.len() {
+        out[at + i] = name[i];
+    }
+    at + name.len()
 }
