@@ -1,6 +1,6 @@
 -- Only contracts of functions inside the crate use these definitions: their answers in the words of the parser, with a position of the file
 -- standing for the bytes from there on.
-use Rattle.std.specs.Prelude.{◌≡◌, ℕ, suc, ◌+◌, ◌≤◌, cond, List, [], ◌∷◌, Result, Ok, Err, length, take, drop}
+use Rattle.std.specs.Prelude.{◌≡◌, ℕ, suc, ◌+◌, ◌≤◌, cond, List, [], ◌∷◌, Option, None, Some, Result, Ok, Err, length, take, drop}
 use Rattle.levels.specs.Levels.{repeats}
 use Rattle.reply.specs.Numbers.{number_of}
 use Rattle.trial_reader.specs.declared.lists.Decoded.{Decoded}
@@ -14,7 +14,7 @@ use Rattle.leb128.specs.Parser.{Parsed, parsed, failed, Parser, pure, ◌>>=◌,
 use Rattle.leb128.specs.Number.{limits64, field}
 use Rattle.trial.specs.Rules.{today}
 use Rattle.trial.specs.Levels.{parse_levels}
-use Rattle.trial.specs.Trial.{Head, Trial, head_from, parse_name, parse_lists}
+use Rattle.trial.specs.Trial.{Head, Trial, parse_name, parse_lists}
 
 -- The head with these codes, unless two of them have a common factor.
 abbrev pub coprime_head : ℕ → ℕ → List ℕ → Parser Head
@@ -24,15 +24,28 @@ coprime_head v n codes = barring (common_factors codes) (pure (record { version 
 abbrev pub third_code : ℕ → ℕ → ℕ → Parser Head
 third_code n f g = field limits64 (code_causes n) >>= λ h. coprime_head 2 n (f ∷ g ∷ h ∷ [])
 
+-- The version by its third code, which version 1 does not have.
+abbrev pub version_of : Option ℕ → ℕ
+version_of None = 1
+version_of (Some h) = 2
+
+abbrev pub codes_from : ℕ → ℕ → Option ℕ → List ℕ
+codes_from f g None = f ∷ g ∷ []
+codes_from f g (Some h) = f ∷ g ∷ h ∷ []
+
+-- What the reader gives for the third code: 0 where there is none.
+abbrev pub code_or_0 : Option ℕ → ℕ
+code_or_0 None = 0
+code_or_0 (Some h) = h
+
+-- How many of a list of so many levels the third list has.
+abbrev pub thirds : Option ℕ → ℕ → ℕ
+thirds None count = 0
+thirds (Some h) count = count
+
 -- The fields in front of the levels.
 abbrev pub head_of : CodeHead → Head
-head_of head = head_from head.version head.degree (head.f ∷ head.g ∷ head.h ∷ [])
-
--- The version is one of the two, and version 1 has 0 for the third code.
-pub record Versioned (head : CodeHead) : Type 0 where
-  pub low : 1 ≤ head.version
-  pub high : head.version ≤ 2
-  pub unused : head.version ≡ 1 → head.h ≡ 0
+head_of head = record { version = version_of head.h; degree = head.degree; codes = codes_from head.f head.g head.h }
 
 -- The same and the bytes behind them.
 abbrev pub head_parsed : List ℕ → Result (CodeHead × ℕ) Refusal → Parsed Head
@@ -40,7 +53,7 @@ head_parsed file (Ok (head, next)) = parsed (head_of head) (drop next file)
 head_parsed file (Err why) = failed (number_of why)
 
 abbrev pub HeadInside : List ℕ → Result (CodeHead × ℕ) Refusal → Type 0
-HeadInside file (Ok (head, next)) = (next ≤ length file) × Versioned head
+HeadInside file (Ok (head, next)) = next ≤ length file
 HeadInside file (Err why) = Unit
 
 -- The answer is what the parser of a head gives at the position.
@@ -63,16 +76,17 @@ pub record ListRead (file : List ℕ) (at count : ℕ) (r : Result ℕ Refusal) 
   pub inside : ListInside file r
 
 -- The lists that a version has, each so many levels at the front of its slice, and the bytes behind them.
-abbrev pub lists_at : ℕ → ℕ → List ℕ → List ℕ → List ℕ → List (List ℕ)
-lists_at v count powers forces times = take (suc v) (take count powers ∷ take count forces ∷ take count times ∷ [])
+abbrev pub lists_at : Option ℕ → ℕ → List ℕ → List ℕ → List ℕ → List (List ℕ)
+lists_at None count powers forces times = take count powers ∷ take count forces ∷ []
+lists_at (Some h) count powers forces times = take count powers ∷ take count forces ∷ take count times ∷ []
 
 abbrev pub lists_parsed : List ℕ → List (List ℕ) → Result ℕ Refusal → Parsed (List (List ℕ))
 lists_parsed file lists (Ok next) = parsed lists (drop next file)
 lists_parsed file lists (Err why) = failed (number_of why)
 
 -- The answer, with the three slices afterwards, is what the parser of the lists gives at the position.
-pub record ListsRead (file : List ℕ) (at v count : ℕ) (r : Result ℕ Refusal) (powers forces times : List ℕ) : Type 0 where
-  pub says : lists_parsed file (lists_at v count powers forces times) r ≡ parse_lists today count (suc v) (drop at file)
+pub record ListsRead (file : List ℕ) (at : ℕ) (h : Option ℕ) (count : ℕ) (r : Result ℕ Refusal) (powers forces times : List ℕ) : Type 0 where
+  pub says : lists_parsed file (lists_at h count powers forces times) r ≡ parse_lists today count (suc (version_of h)) (drop at file)
   pub inside : ListInside file r
 
 -- The levels at the front of the slice, as many as were read, decide first: the parser refuses by 14 where one is equal to an earlier one.
@@ -103,7 +117,7 @@ content_of file powers forces times layout =
     let head = layout.head in
     record {
       head = head_of head;
-      lists = lists_at head.version layout.count powers forces times;
+      lists = lists_at head.h layout.count powers forces times;
       name = take layout.size (drop layout.name_at file);
     }
 
@@ -111,11 +125,10 @@ abbrev pub trial_parsed : List ℕ → List ℕ → List ℕ → List ℕ → Re
 trial_parsed file powers forces times (Ok layout) = parsed (content_of file powers forces times layout) []
 trial_parsed file powers forces times (Err why) = failed (number_of why)
 
--- No list is longer than 64, the name reaches to the end of the file, and the version is one of the two.
+-- No list is longer than 64, and the name reaches to the end of the file.
 pub record LayoutInside (file : List ℕ) (layout : Layout) : Type 0 where
   pub few : layout.count ≤ 64
   pub last : layout.name_at + layout.size ≡ length file
-  pub versioned : Versioned layout.head
 
 abbrev pub TrialInside : List ℕ → Result Layout Refusal → Type 0
 TrialInside file (Ok layout) = LayoutInside file layout
@@ -136,6 +149,6 @@ content_from layout =
       g = head.g;
       name_at = layout.name_at;
       size = layout.size;
-      version = head.version;
-      h = head.h;
+      version = version_of head.h;
+      h = code_or_0 head.h;
     }

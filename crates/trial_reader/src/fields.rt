@@ -19,7 +19,7 @@ fn version_field(file: &[u8], at: usize) -> Result<(u32, usize), Refusal>
     ensures { Reads (field limits64 (version_causes today)) file.now at result }
 {
     let (version, next) = read_small(file, at)?;
-    if version < 1 || 2 < version {
+    if !(1..=2).contains(&version) {
         return Err(Refusal::Version);
     }
     Ok((version as u32, next))
@@ -61,14 +61,13 @@ pub(crate) fn size_field(file: &[u8], at: usize) -> Result<(usize, usize), Refus
     Ok((size as usize, next))
 }
 
-// The codes of version 1 are f and g, and h is 0.
+// A version is known by what it has: version 2 has a third code, h.
 #[derive(Clone, Copy)]
 pub(crate) struct Head {
-    pub version: u32,
     pub degree: u32,
     pub f: u32,
     pub g: u32,
-    pub h: u32,
+    pub h: Option<u32>,
 }
 
 // The fields in front of the levels, with the position behind them.
@@ -102,11 +101,10 @@ fn two_codes(file: &[u8], at: usize, degree: u32, f: u32, g: u32) -> Result<(Hea
         return Err(Refusal::CommonFactor);
     }
     let head = Head {
-        version: 1,
         degree,
         f,
         g,
-        h: 0,
+        h: None,
     };
     Ok((head, at))
 }
@@ -126,11 +124,10 @@ fn three_codes(
     let (h, at) = code_field(file, at, degree)?;
     check_three(degree, f, g, h)?;
     let head = Head {
-        version: 2,
         degree,
         f,
         g,
-        h,
+        h: Some(h),
     };
     Ok((head, at))
 }

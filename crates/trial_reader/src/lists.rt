@@ -3,6 +3,7 @@ ghost use Rattle.std.specs.Prelude.{◌≡◌, ◌≤◌, length, take};
 ghost use Rattle.reply.specs.Reply.{over};
 ghost use Rattle.trial_reader.specs.Inner.{Decodes, ListRead, ListsRead};
 
+use crate::fields::Head;
 use crate::short::read_level;
 use levels::distinct;
 use reply::Refusal;
@@ -64,19 +65,19 @@ fn read_levels(file: &[u8], at: usize, count: usize, out: &mut [u16]) -> Result<
 pub(crate) fn read_lists(
     file: &[u8],
     at: usize,
-    version: u32,
+    head: Head,
     count: usize,
     powers: &mut [u16],
     forces: &mut [u16],
     times: &mut [u16],
 ) -> Result<usize, Refusal>
-    requires le_version { (1 ≤ version) × (version ≤ 2) × (at ≤ length file.now) }
+    requires inside { at ≤ length file.now }
     requires count_in_bounds { (count ≤ length powers.old) × (count ≤ length forces.old) × (count ≤ length times.old) }
-    ensures { ListsRead file.now at version count result powers.new forces.new times.new }
+    ensures { ListsRead file.now at head.h count result powers.new forces.new times.new }
 {
     let at = read_levels(file, at, count, powers)?;
     let at = read_levels(file, at, count, forces)?;
-    if version == 1 {
+    if head.h.is_none() {
         return Ok(at);
     }
     read_levels(file, at, count, times)

@@ -1,9 +1,9 @@
 // The reader. It reads the levels into arrays of its own while it decides, and copies them only from an accepted file: each level is
 // decoded once, and a refusal leaves the lent slices as they were.
-ghost use Rattle.std.specs.Prelude.{cond, ◌≡◌, ◌^◌, ◌≤◌, eqb, length};
+ghost use Rattle.std.specs.Prelude.{◌≡◌, ◌^◌, ◌≤◌, length};
 ghost use Rattle.trial.specs.Rules.{today};
 ghost use Rattle.trial.specs.Trial.{parse_body, parse};
-ghost use Rattle.trial_reader.specs.Inner.{head_of, Versioned, Surveys, content_from};
+ghost use Rattle.trial_reader.specs.Inner.{head_of, thirds, Surveys, content_from};
 ghost use Rattle.trial_reader.specs.Answers.{ReadDone, name_part, Opens};
 
 use crate::fields::{Head, read_head};
@@ -47,12 +47,11 @@ fn survey_body(
     times: &mut [u16],
 ) -> Result<Layout, Refusal>
     requires count_value { (count ≡ 2 ^ head.degree) × (count ≤ 64) × (at ≤ length file.now) }
-    requires versioned { Versioned head }
     requires in_bounds { (64 ≤ length powers.old) × (64 ≤ length forces.old) × (64 ≤ length times.old) }
     ensures { Surveys (parse_body today (head_of head)) file.now at result
         powers.new forces.new times.new }
 {
-    let at = read_lists(file, at, head.version, count, powers, forces, times)?;
+    let at = read_lists(file, at, head, count, powers, forces, times)?;
     let name = read_name(file, at)?;
     Ok(Layout {
         head,
@@ -75,13 +74,13 @@ pub struct Content {
 }
 
 // How many levels the third list has.
-fn times_count(version: u32, count: usize) -> usize
-    ensures { result ≡ cond (eqb version 1) 0 count }
+fn times_count(h: Option<u32>, count: usize) -> usize
+    ensures { result ≡ thirds h count }
 {
-    if version == 1 {
-        return 0;
+    match h {
+        None => 0,
+        Some(_) => count,
     }
-    count
 }
 
 // Reads a file, with its levels into the slices; version 1 leaves the third as it is.
@@ -109,11 +108,7 @@ pub fn read(
     let layout = survey(file, &mut powers_read, &mut forces_read, &mut times_read)?;
     copy_levels(&powers_read, layout.count, powers);
     copy_levels(&forces_read, layout.count, forces);
-    copy_levels(
-        &times_read,
-        times_count(layout.head.version, layout.count),
-        times,
-    );
+    copy_levels(&times_read, times_count(layout.head.h, layout.count), times);
     Ok(content_of(layout))
 }
 
@@ -122,14 +117,18 @@ fn content_of(layout: Layout) -> Content
     ensures { result ≡ content_from layout }
 {
     let head = layout.head;
+    let (version, h) = match head.h {
+        None => (1, 0),
+        Some(h) => (2, h),
+    };
     Content {
         degree: head.degree,
         f: head.f,
         g: head.g,
         name_at: layout.name_at,
         size: layout.size,
-        version: head.version,
-        h: head.h,
+        version,
+        h,
     }
 }
 

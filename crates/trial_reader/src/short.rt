@@ -1,17 +1,10 @@
 // The number at a position of the file, as `read_number` gives it, with the few bytes that a number of a trial has read here: no call then
 // stands between one number and the next.
-ghost use Rattle.std.specs.Prelude.{◌≡◌};
 ghost use Rattle.leb128.specs.Number.{number};
 ghost use Rattle.leb128.specs.Reading.{Reads};
 
 use leb128::read_number;
 use reply::Refusal;
-
-fn wide(byte: u8) -> u64
-    ensures { result ≡ byte }
-{
-    byte as u64
-}
 
 // One byte is read here: no field but a level accepts a number that takes more.
 pub(crate) fn read_small(file: &[u8], at: usize) -> Result<(u64, usize), Refusal>
@@ -20,7 +13,7 @@ pub(crate) fn read_small(file: &[u8], at: usize) -> Result<(u64, usize), Refusal
     if file.len() <= at {
         return Err(Refusal::FileEnds);
     }
-    let byte = wide(file[at]);
+    let byte = u64::from(file[at]);
     if byte < 128 {
         return Ok((byte, at + 1));
     }
@@ -34,14 +27,14 @@ pub(crate) fn read_level(file: &[u8], at: usize) -> Result<(u64, usize), Refusal
     if file.len() <= at {
         return Err(Refusal::FileEnds);
     }
-    let first = wide(file[at]);
+    let first = u64::from(file[at]);
     if first < 128 {
         return Ok((first, at + 1));
     }
     if file.len() <= at + 1 {
         return Err(Refusal::FileEnds);
     }
-    let second = wide(file[at + 1]);
+    let second = u64::from(file[at + 1]);
     if second == 0 {
         return Err(Refusal::NumberForm);
     }
@@ -51,7 +44,7 @@ pub(crate) fn read_level(file: &[u8], at: usize) -> Result<(u64, usize), Refusal
     if file.len() <= at + 2 {
         return Err(Refusal::FileEnds);
     }
-    let third = wide(file[at + 2]);
+    let third = u64::from(file[at + 2]);
     if third == 0 {
         return Err(Refusal::NumberForm);
     }

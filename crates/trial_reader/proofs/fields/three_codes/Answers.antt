@@ -43,5 +43,5 @@ returns c =
       says =
           rw (code_told a.degree a.file.now a.at read)
           (sym (barring_clear (common_factors codes) _ _ (none_applies (common_factors codes) [] [] (sym passed))));
-      inside = (read.inside, record { low = omega arith; high = omega arith; unused = λ e. absurd (omega (arith, e)) });
+      inside = read.inside;
     }

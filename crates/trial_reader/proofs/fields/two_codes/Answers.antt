@@ -1,6 +1,5 @@
 -- `two_codes` meets its contract: the test is the only cause.
-use mathlib.Core.Path.{sym, refl, ◌∙◌}
-use native.Mathlib.Omega.{arith}
+use mathlib.Core.Path.{sym, ◌∙◌}
 use borrow.Author.Tests.{eq-eqb, ne_eqb}
 use Rattle.poly.specs.Coprime.{gcd}
 use Rattle.trial_reader.proofs.fields.two_codes.Goals as goal
@@ -15,4 +14,4 @@ pub returns : goal.returns
 returns c =
     let a = c.args in
     let coprime = eq-eqb (gcd 2 a.f a.g) 1 (sym c.gcd.ensures ∙ c.if-gcd-ne1.false) in
-    record { says = rw coprime; inside = (c.requires, record { low = omega arith; high = omega arith; unused = λ _. refl }) }
+    record { says = rw coprime; inside = c.requires }

@@ -1,26 +1,40 @@
--- `version_field` meets its contract: the number is read, and the test on it is the field's cause.
-use mathlib.Core.Path.{refl}
+-- `version_field` meets its contract: the number is read, and the test of its range is the field's cause.
+use mathlib.Core.Bool.{Bool, true, false, not, true≢false}
+use mathlib.Core.Path.{◌≡◌, refl}
+use Prim.Native.Nat.{ℕ, ◌≤◌}
 use Rattle.reply.specs.declared.Refusal.TheVariants.{Version}
-use Rattle.poly.proofs.Ranges.{inside, outside_below, outside_above}
+use Rattle.std.specs.Prelude.{IsTrue, ◌↔◌}
+use Rattle.std.proofs.Common.{rules, tests}
+use Rattle.poly.specs.Limits.{outside}
+use Rattle.poly.proofs.Ranges.{inside, within}
 use Rattle.leb128.specs.Number.{number}
 use Rattle.leb128.proofs.Told.{barred_field, clear_field}
 use Rattle.trial.specs.Rules.{today}
 use Rattle.trial.specs.Trial.{version_causes}
+use Rattle.trial.proofs.Flags.{denied, upheld}
 use Rattle.trial_reader.proofs.fields.version_field.Goals as goal
-use Rattle.trial_reader.proofs.fields.version_field.Goals.{then-version-lt1-via-then-version-lt1}
-use Rattle.trial_reader.proofs.fields.version_field.Goals.{then-version-lt1-via-else-version-lt1+then-version-gt2}
 
-pub returns-then-version-lt1 : goal.returns-then-version-lt1
-returns-then-version-lt1 c =
+-- What the test of the range tells.
+in_range : (v : ℕ) (r : Bool) → (IsTrue r ↔ ((1 ≤ v) × (v ≤ 2))) → r ≡ not (outside 1 2 v)
+in_range v true e = let range = e.0 refl in rw (inside 1 2 range.0 range.1)
+in_range v false e = go (outside 1 2 v) refl
+  where
+    go : (b : Bool) → outside 1 2 v ≡ b → false ≡ not (outside 1 2 v)
+    go true q = rw q
+    go false q = let wrong : false ≡ true = e.1 (within 1 2 q) in absurd (true≢false cc)
+
+pub returns-then-not-contains : goal.returns-then-not-contains
+returns-then-not-contains c =
     let a = c.args in
-    let barred = barred_field (version_causes today) number a.file.now a.at c.in_ok-version.ensures refl Version in
-    elim c.then-version-lt1.branch [
-      | then-version-lt1-via-then-version-lt1 w ↦ barred (rw (outside_below 1 2 w.if-version-lt1.true))
-      | then-version-lt1-via-else-version-lt1+then-version-gt2 w ↦ barred (rw (outside_above 1 2 w.if-version-gt2.true))
-    ]
+    let v = c.in_ok-version.version in
+    let test : IsTrue c.contains.result ↔ ((1 ≤ v) × (v ≤ 2)) = search (rules, tests) in
+    barred_field (version_causes today) number a.file.now a.at c.in_ok-version.ensures refl Version
+    (rw (denied c.contains.result _ (in_range v _ test) c.if-not-contains.true))
 
 pub returns : goal.returns
 returns c =
     let a = c.args in
+    let v = c.in_ok-version.version in
+    let test : IsTrue c.contains.result ↔ ((1 ≤ v) × (v ≤ 2)) = search (rules, tests) in
     clear_field (version_causes today) number a.file.now a.at c.in_ok-version.ensures refl
-    (inside 1 2 c.if-version-lt1.false c.if-version-gt2.false, tt)
+    (upheld c.contains.result _ (in_range v _ test) c.if-not-contains.false, tt)

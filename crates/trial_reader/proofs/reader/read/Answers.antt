@@ -43,7 +43,7 @@ copy_levels-requires-2 c = let few = c.in_ok-layout.ensures.inside.few in (omega
 
 pub copy_levels-requires-3 : goal.copy_levels-requires-3
 copy_levels-requires-3 c =
-    let most = times_few c.in_ok-layout.layout.head.version c.times_count.ensures c.in_ok-layout.ensures.inside.few in
+    let most = times_few c.in_ok-layout.layout.head.h c.times_count.ensures c.in_ok-layout.ensures.inside.few in
     (omega arith, omega arith)
 
 pub returns-in_err-layout : goal.returns-in_err-layout

@@ -41,7 +41,7 @@ survey_body-requires-clause-count_value c =
     let head = c.in_ok-head.head in
     let degree = head-degree c.args.file.now (sym c.in_ok-head.ensures.says) in
     let same = order_is head.degree degree c.in_ok-order.ensures in
-    (same, rw same (order_few head.degree degree), c.in_ok-head.ensures.inside.0)
+    (same, rw same (order_few head.degree degree), c.in_ok-head.ensures.inside)
 
 pub returns : goal.returns
 unfolding parse

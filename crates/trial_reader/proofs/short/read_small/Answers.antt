@@ -10,7 +10,7 @@ returns-then-file-at c = let a = c.args in record { says = sym (none_left a.file
 pub returns-then-byte-lt128 : goal.returns-then-byte-lt128
 returns-then-byte-lt128 c =
     let a = c.args in
-    let says = one_byte a.file.now a.at c.wide-byte.result (sym c.wide-byte.ensures) (omega arith) c.if-byte-lt128.true in
+    let says = one_byte a.file.now a.at c.from-byte.result (sym c.from-byte.ensures) (omega arith) c.if-byte-lt128.true in
     record { says = sym says; inside = omega arith }
 
 pub bounds-file-at : goal.bounds-file-at
