@@ -34,19 +34,11 @@ module _ (n : ℕ) (codes lent : List ℕ) where
     small : (k : ℕ) → k < length codes → get_or codes k 0 < 2 ^ suc n
     small k l = (code_passed n codes (clear_left (own_causes n codes) (common_factors codes) none.1) k l).0.high
 
-    -- a sheet can be filled with the first two codes and the one at place k
-    pub fillable : (width k : ℕ) → (width ≡ 2) ⊎ (width ≡ 3) → 1 < length codes → k < length codes
-        → Fillable n width (get_or codes 0 0) (get_or codes 1 0) (get_or codes k 0)
-    fillable width k wide two there =
+    -- a sheet can be filled
+    pub fillable : (length codes ≡ 2) ⊎ (length codes ≡ 3) → Fillable n codes
+    fillable count =
         let (low, high) = within 2 6 none.0 in
-        record {
-          some = omega arith;
-          few = omega arith;
-          two_or_three = wide;
-          f_small = small 0 (omega arith);
-          g_small = small 1 two;
-          h_small = small k there;
-        }
+        record { some = omega arith; few = omega arith; two_or_three = count; small = small }
 
     -- past the degree and the codes
     pub laid : {reply : Reply} {out : List ℕ}

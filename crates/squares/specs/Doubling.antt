@@ -1,12 +1,8 @@
 -- The runs of bytes by which a sheet is filled, each the exclusive or of an earlier run and a pattern. No public contract speaks of it.
-use Rattle.std.specs.Prelude.{◌⊎◌, ◌≡◌, List, [], ◌∷◌, map, ℕ, suc, ◌+◌, ◌*◌, ◌/◌, ◌%◌, ◌^◌, ◌≤◌, ◌<◌, ltb, length, get_or, take}
+use Rattle.std.specs.Prelude.{◌⊎◌, ◌≡◌, List, [], ◌∷◌, map, ℕ, suc, ◌+◌, ◌*◌, ◌/◌, ◌%◌, ◌^◌, ◌≤◌, ◌<◌, ltb, length, get_or}
 use Rattle.std.specs.Int.Bits.{bit_xor}
 use Rattle.reply.specs.Reply.{Reply, served, ◌gives◌, unless}
 use Rattle.squares.specs.Symbols.{symbol}
-
--- The first `width` of three codes, which a sheet of two or of three has.
-abbrev pub codes_of : ℕ → ℕ → ℕ → ℕ → List ℕ
-codes_of width f g h = take width (f ∷ g ∷ h ∷ [])
 
 -- The symbol at a site given as one number, row * 2^n + col.
 abbrev pub at_site : ℕ → ℕ → ℕ → ℕ
@@ -23,14 +19,11 @@ by_turns symbols i = get_or symbols (i % length symbols) 0
 pub record Repeated (symbols pattern : List ℕ) : Type 0 where
   pub at : (i : ℕ) → i < 64 * length symbols → get_or pattern i 0 ≡ by_turns symbols i
 
--- The bytes of a word, lowest first; and a word that spells the eight symbols from place `at` on.
-abbrev pub bytes_of : ℕ → List ℕ
-bytes_of word =
-    word % 256 ∷ word / 256 % 256 ∷ word / 65536 % 256 ∷ word / 16777216 % 256 ∷ word / 4294967296 % 256 ∷ word / 1099511627776 % 256
-    ∷ word / 281474976710656 % 256 ∷ word / 72057594037927936 % 256 ∷ []
-
-pub record Spelled (symbols : List ℕ) (at word : ℕ) : Type 0 where
-  pub byte : (k : ℕ) → k < 8 → get_or (bytes_of word) k 0 ≡ by_turns symbols (at + k)
+-- The first `count` of some bytes put from `at` on; what is before `at` stands.
+pub record Put (before : List ℕ) (at count : ℕ) (bytes after : List ℕ) : Type 0 where
+  pub long : length after ≡ length before
+  pub low : (j : ℕ) → j < at → get_or after j 0 ≡ get_or before j 0
+  pub new : (k : ℕ) → k < count → get_or after (at + k) 0 ≡ get_or bytes k 0
 
 -- Part of one block, or some whole blocks.
 abbrev pub Whole : ℕ → ℕ → Type 0
@@ -41,13 +34,11 @@ abbrev pub room_reply : ℕ → ℕ → ℕ → Reply
 room_reply width n len = unless (ltb len (width * 4 ^ n) gives 4 ∷ []) (served [])
 
 -- What the filling of a sheet of two or three codes rests on.
-pub record Fillable (n width f g h : ℕ) : Type 0 where
+pub record Fillable (n : ℕ) (codes : List ℕ) : Type 0 where
   pub some : 1 ≤ n
   pub few : n < 7
-  pub two_or_three : (width ≡ 2) ⊎ (width ≡ 3)
-  pub f_small : f < 2 ^ suc n
-  pub g_small : g < 2 ^ suc n
-  pub h_small : h < 2 ^ suc n
+  pub two_or_three : (length codes ≡ 2) ⊎ (length codes ≡ 3)
+  pub small : (k : ℕ) → k < length codes → get_or codes k 0 < 2 ^ suc n
 
 -- The `count` bytes from `to` on are those from `from` on, exclusive or the pattern; all others stand.
 pub record Added (before : List ℕ) (from to count : ℕ) (pattern : ℕ → ℕ) (after : List ℕ) : Type 0 where

@@ -1,15 +1,18 @@
+-- `add` meets its contract: a block lies within the size, and begins where the pattern begins again.
 use mathlib.Core.Logic.{◌⊎◌, inl, inr}
-use mathlib.Core.Path.{◌≡◌, sym, ap}
-use Prim.Native.Nat.{ℕ, suc, ◌+◌, ◌*◌, ◌/◌, ◌%◌, ◌≤◌, ◌<◌}
+use mathlib.Core.Path.{◌≡◌, sym, ap, ◌∙◌}
+use Prim.Native.Nat.{ℕ, suc, ◌+◌, ◌*◌, ◌/◌, ◌%◌, ◌≤◌, ◌<◌, min}
 use native.Mathlib.Nat.{zero-add, zero-mul, suc-mul, mul-le-mul_right, lt_of_mul-lt-mul_right, div-add-mod'}
+use native.Mathlib.Decide.{dec_lt}
 use native.Mathlib.Omega.{arith}
 use lib.Arith.{digits_mod}
-use lib.ListN.{get_or}
-use Rattle.squares.specs.Doubling.{Whole}
+use mathlib.Core.List.{List}
+use lib.ListN.{length, get_or, take}
+use lib.Seq.{length-take-le, get_or-take}
+use Rattle.squares.specs.Doubling.{by_turns, Whole, Added}
 use Rattle.squares.proofs.Runs.{none, append}
 use Rattle.squares.proofs.add.Invariants.{Block}
 use Rattle.squares.proofs.add.Goals as goal
-use Rattle.squares.proofs.add.Goals.{then-size-block, else-size-block}
 
 -- how the size is cut into blocks
 abbrev Cut : ℕ → ℕ → ℕ → Type 0
@@ -46,56 +49,34 @@ next {block} {at = at} (inr (e, whole)) b h =
       within = rw aligned (inside block (suc b.before) whole (rw (← aligned) (rw e at h)));
     })
 
--- a whole number of blocks, where the size is not below one
-whole : {block size : ℕ} → Whole block size → block ≤ size → size % block ≡ 0
-whole (inl small) h = absurd (omega arith)
-whole (inr e) h = e
+cut : {block size count : ℕ} → Whole block size → count ≡ min size block → Cut block size count
+cut {block} {size} whole e = elim (dec_lt size block) [
+  | yes l ↦ inl (omega arith, l)
+  | no l ↦ inr (omega arith, elim whole [ inl small ↦ absurd (omega arith) | inr all ↦ all ])
+]
+
+-- the bytes of one block more
+further : (pattern : List ℕ) {out out' out'' : List ℕ} {size count at : ℕ} (b : Block (length pattern) size count at)
+    → Added out 0 size at (by_turns pattern) out'
+    → Added out' at (size + at) (length (take count pattern)) (λ i. get_or (take count pattern) i 0) out''
+    → Added out 0 size (at + count) (by_turns pattern) out''
+further pattern {size = size} {count} {at} b before here =
+    let whole = rw (length-take-le count pattern (omega (arith, b.few))) at here in
+    append (omega (arith, b.within))
+    (λ i h. let same : (at + i) % length pattern ≡ i = rw b.aligned (digits_mod b.before (omega (arith, b.few))) in
+    get_or-take count pattern i 0 h ∙ ap (λ v. get_or pattern v 0) (sym same))
+    before (rw zero-add whole)
 
 pub loop-at-init : goal.loop-at-init
 loop-at-init c =
     let a = c.args in
-    let cut : Cut a.block a.size c.if-size-block.count =
-    elim c.if-size-block.branch [
-      | then-size-block w ↦ inl (w.count-is, w.if-size-block.true)
-      | else-size-block w ↦ inr (w.count-is, whole c.requires.4 w.if-size-block.false)
-    ] in
-    (omega arith, first c.requires.2 cut, none a.out.now 0 a.size (λ i. get_or a.pattern.now (i % a.block) 0))
-
-pub overflow_add-size : goal.overflow_add-size
-overflow_add-size c = record { fits = omega arith }
-
-pub add_block-requires : goal.add_block-requires
-add_block-requires c =
-    let b : Block c.args.block c.args.size c.if-size-block.count c.loop-at.at = c.loop-at.invariant.1 c.loop-at-test.true in
-    let long = c.loop-at.invariant.2.long in
-    (omega (arith, b.few), omega (arith, b.within), omega arith, omega (arith, b.within, long))
-
-pub overflow_add-at : goal.overflow_add-at
-overflow_add-at c = record { fits = omega (arith, (c.loop-at.invariant.1 c.loop-at-test.true).within) }
-
-pub loop-at-smaller : goal.loop-at-smaller
-loop-at-smaller c = let b : Block c.args.block c.args.size c.if-size-block.count c.loop-at.at = c.loop-at.invariant.1 c.loop-at-test.true in omega (arith, b.within, b.some)
+    (omega arith, first c.requires.2 (cut c.requires.4 c.min-count.ensures), none a.out.now 0 a.size (by_turns a.pattern.now))
 
 pub loop-at-preserved : goal.loop-at-preserved
 loop-at-preserved c =
-    let a = c.args in
     let loop = c.loop-at in
-    let cut : Cut a.block a.size c.if-size-block.count =
-    elim c.if-size-block.branch [
-      | then-size-block w ↦ inl (w.count-is, w.if-size-block.true)
-      | else-size-block w ↦ inr (w.count-is, whole c.requires.4 w.if-size-block.false)
-    ] in
-    let b : Block a.block a.size c.if-size-block.count loop.at = loop.invariant.1 c.loop-at-test.true in (
-      b.within,
-      next cut b,
-      append (omega (arith, b.within))
-          (λ i h. let same : (loop.at + i) % a.block ≡ i = rw b.aligned (digits_mod b.before (omega (arith, b.few))) in
-          ap (λ v. get_or a.pattern.now v 0) (sym same))
-          loop.invariant.2 (rw zero-add c.add_block.ensures),
-    )
-
-pub shape_of-out : goal.shape_of-out
-shape_of-out c = c.loop-at.invariant.2.long
+    let b = loop.invariant.1 c.loop-at-test.true in
+    (b.within, next (cut c.requires.4 c.min-count.ensures) b, further c.args.pattern.now b loop.invariant.2 c.add_block.ensures)
 
 pub returns : goal.returns
 returns c =

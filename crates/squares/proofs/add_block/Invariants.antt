@@ -1,11 +1,7 @@
 -- `add_block` meets its contract. The invariant: the first i bytes of the run are stored.
-use Prim.Native.Nat.{◌-◌, ◌≤◌}
 use lib.ListN.{get_or}
 use Rattle.squares.specs.Doubling.{Added}
 use Rattle.squares.proofs.add_block.Given as goal
 
 abbrev pub invariant-loop-i : goal.invariant-loop-i
-invariant-loop-i l = (l.i ≤ l.count) × Added l.initial.out l.from l.to l.i (λ k. get_or l.pattern k 0) l.out
-
-abbrev pub decreases-loop-i : goal.decreases-loop-i
-decreases-loop-i l = l.count - l.i
+invariant-loop-i l = Added l.initial.out l.from l.to l.i (λ k. get_or l.pattern k 0) l.out

@@ -1,39 +1,19 @@
--- `double` meets its contract: the line of site 2^m has a single one, the pattern has the symbols there by turns, and `add` adds it. The
--- widths two and three differ in how the pattern is filled alone.
+-- `double` meets its contract: the size that is doubled is part of one block, or some whole blocks of 64 sites.
 use mathlib.Core.Logic.{◌⊎◌, inl, inr}
-use mathlib.Core.Path.{◌≡◌, sym, ap, ap₂, ◌∙◌}
-use mathlib.Core.List.{List, [], ◌∷◌}
-use Prim.Native.Nat.{ℕ, suc, ◌+◌, ◌-◌, ◌*◌, ◌/◌, ◌%◌, ◌^◌, ◌≤◌, ◌<◌}
-use native.Mathlib.Nat.{le_refl, mod-lt, lt_of_lt_of_le, mul-le-mul_left, mul_comm, mul_assoc, add-zero}
-use native.Mathlib.Nat.{div-add-mod', mul-add-mod_self_right}
+use mathlib.Core.Path.{◌≡◌, sym, ap, ◌∙◌}
+use mathlib.Core.List.{List}
+use Prim.Native.Nat.{ℕ, ◌+◌, ◌-◌, ◌*◌, ◌/◌, ◌%◌, ◌^◌, ◌≤◌, ◌<◌}
+use native.Mathlib.Nat.{mod-lt, mul-le-mul_left, mul_comm, mul_assoc, add-zero, div-add-mod', mul-add-mod_self_right}
 use native.Mathlib.Decide.{dec_lt}
 use native.Mathlib.Omega.{arith}
+use borrow.Author.Rules.{rules}
 use lib.Arith.{digits_mod}
 use lib.Bits.{bit_xor}
-use lib.ListN.{length, get_or}
-use lib.Pow.{pow_pos, pow_mono, pow-add, shl_exact}
-use Rattle.poly.proofs.Shifts.{one_shl}
-use Rattle.squares.specs.Doubling.{at_site, by_turns, Repeated, Whole, Added}
-use Rattle.squares.specs.Symbols.{from_digits}
-use Rattle.squares.specs.Lines.{parity}
-use Rattle.squares.proofs.Binary.{site_parities, unit_line}
-use Rattle.squares.proofs.Linear.{symbol_lt}
+use lib.ListN.{length, get_or, take, length-map}
+use lib.Pow.{pow_mono, pow-add, shl_exact}
+use lib.Seq.{length-take-le, get_or-take}
+use Rattle.squares.specs.Doubling.{at_site, unit_symbols, by_turns, Repeated, Whole, Fillable, Added}
 use Rattle.squares.proofs.double.Goals as goal
-
--- the symbol at site 2^m, from its line; it is a byte
-unit_symbol : (n m : ℕ) {f x : ℕ} → n < 7 → m < 2 * n → f < 2 ^ suc n → x ≡ from_digits 2 n (parity f (1 * 2 ^ (2 * n - 1 - m) % 2 ^ 64))
-    → (x ≡ at_site n f (2 ^ m)) × (x < 2 ^ 8)
-unit_symbol n m {f} {x} h l f_lt e =
-    let place : 2 * n - 1 - m ≡ n + n - suc m = omega arith in
-    let line : 1 * 2 ^ (2 * n - 1 - m) % 2 ^ 64 ≡ 2 ^ (n + n - suc m) =
-    one_shl 64 (2 * n - 1 - m) (omega arith) ∙ ap (λ (v : ℕ). 2 ^ v) place in
-    let is : x ≡ at_site n f (2 ^ m) =
-    rw line at e ∙ sym (site_parities n (2 ^ m) (2 ^ (n + n - suc m)) (omega arith) f_lt (unit_line n m (omega arith))) in (
-      is,
-      rw is
-          (lt_of_lt_of_le (symbol_lt 2 (le_refl 2) n f_lt (2 ^ m / 2 ^ n) (mod-lt (2 ^ m) (pow_pos n)))
-          (pow_mono {i = n} {j = 8} (omega arith))),
-    )
 
 module _ (width m : ℕ) (m-few : m < 12) where
   -- the size that is doubled
@@ -56,75 +36,80 @@ module _ (width m : ℕ) (m-few : m < 12) where
           (mul_comm width (64 * 2 ^ k) ∙ ap (λ v. v * width) (mul_comm 64 (2 ^ k)) ∙ mul_assoc (2 ^ k) 64 width ∙ sym (add-zero _)) in
           rw whole (digits_mod (2 ^ k) (omega arith))
 
-  -- what `add` asks
-  asked : {len size : ℕ} → 0 < width → width < 4 → size ≡ width → 2 * (size * 2 ^ m) ≤ len
-      → (width * 2 ^ m % 2 ^ 64 ≤ 6144) × (2 * (width * 2 ^ m % 2 ^ 64) ≤ len) × (0 < 64 * width) × (64 * width ≤ 192)
-      × Whole (64 * width) (width * 2 ^ m % 2 ^ 64)
-  asked some few e room = rw (size_is few) (omega (arith, size_few), rw e at room, omega arith, omega arith, whole_size some)
-
 -- what the pattern adds
-module _ (symbols : List ℕ) (some : 0 < length symbols) where
+module _ (symbols pattern : List ℕ) (some : 0 < length symbols) (long : 64 * length symbols ≤ length pattern) where
   abbrev block : ℕ
   block = 64 * length symbols
 
-  part : {pattern : List ℕ} → Repeated symbols pattern → (i : ℕ) → get_or pattern (i % block) 0 ≡ by_turns symbols i
-  part r i =
+  turns : Repeated symbols pattern → (i : ℕ) → by_turns (take block pattern) i ≡ by_turns symbols i
+  turns r i =
       let rest : ℕ = i % block in
+      let inside : rest < block = mod-lt i (omega arith) in
       let whole : i ≡ i / block * 64 * length symbols + rest =
       sym (div-add-mod' i block) ∙ ap (λ v. v + rest) (sym (mul_assoc (i / block) 64 (length symbols))) in
       let same : rest % length symbols ≡ i % length symbols =
       sym (ap (λ v. v % length symbols) whole ∙ mul-add-mod_self_right (i / block * 64) (length symbols) rest) in
-      r.at rest (mod-lt i (omega arith)) ∙ ap (λ v. get_or symbols v 0) same
+      ap (λ v. get_or (take block pattern) (i % v) 0) (length-take-le block pattern long)
+      ∙ get_or-take block pattern rest 0 inside ∙ r.at rest inside ∙ ap (λ v. get_or symbols v 0) same
 
-  doubled : {m : ℕ} {pattern out out' : List ℕ} → m < 12 → length symbols < 4 → Repeated symbols pattern
-      → (let size : ℕ = length symbols * 2 ^ m % 2 ^ 64 in Added out 0 size size (λ i. get_or pattern (i % block) 0) out')
-      → (let size : ℕ = length symbols * 2 ^ m in Added out 0 size size (by_turns symbols) out')
-  doubled {m} {out = out} m-few few r added =
-      let a = rw (size_is (length symbols) m m-few few) at added in
-      record {
-        long = a.long;
-        low = a.low;
-        new = λ i h. a.new i h ∙ ap (bit_xor (get_or out (0 + i) 0)) (part r i);
-        high = a.high;
-      }
+same_pattern : {out out' : List ℕ} {size size' : ℕ} {p q : ℕ → ℕ} → size ≡ size' → ((i : ℕ) → p i ≡ q i)
+    → Added out 0 size size p out' → Added out 0 size' size' q out'
+same_pattern {out} e same a = rw (← e) record {
+  long = a.long;
+  low = a.low;
+  new = λ i h. a.new i h ∙ ap (bit_xor (get_or out (0 + i) 0)) (same i);
+  high = a.high;
+}
 
--- a width that is not two
-three : {width : ℕ} → (width ≡ 2) ⊎ (width ≡ 3) → (width ≡ 2 → ⊥) → width ≡ 3
-three (inl e) ne = absurd (ne e)
-three (inr e) ne = e
+-- the block that is passed
+module _ {n m : ℕ} {codes : List ℕ} (pattern : List ℕ) (given : Fillable n codes) (l : m < 2 * n) (whole : length pattern ≡ 192) where
+  abbrev w : ℕ
+  w = length codes
 
-pub overflow_cast-unit : goal.overflow_cast-unit
-overflow_cast-unit c = record { fits = (unit_symbol c.args.n c.args.m c.requires.0.few c.requires.1 c.requires.0.f_small c.symbols_of-unit.ensures.0).1 }
+  abbrev size : ℕ
+  size = w * 2 ^ m % 2 ^ 64
 
-pub overflow_cast-unit-then-width-eq2 : goal.overflow_cast-unit-then-width-eq2
-overflow_cast-unit-then-width-eq2 c = record { fits = (unit_symbol c.args.n c.args.m c.requires.0.few c.requires.1 c.requires.0.g_small c.symbols_of-unit.ensures.1).1 }
+  few : m < 12
+  few = let n_few : n < 7 = given.few in omega arith
+
+  wide : (0 < w) × (w < 4)
+  wide = go given.two_or_three
+    where
+      go : (w ≡ 2) ⊎ (w ≡ 3) → (0 < w) × (w < 4)
+      go (inl e) = (omega arith, omega arith)
+      go (inr e) = (omega arith, omega arith)
+
+  small : 64 * w ≤ length pattern
+  small = omega (arith, wide)
+
+  taken : length (take (64 * w) pattern) ≡ 64 * w
+  taken = length-take-le (64 * w) pattern small
+
+  asked : {len : ℕ} → 2 * (w * 2 ^ m) ≤ len
+      → (let block : ℕ = length (take (64 * w) pattern) in
+      (size ≤ 6144) × (2 * size ≤ len) × (0 < block) × (block ≤ 192) × Whole block size)
+  asked room =
+      rw (taken, size_is w m few wide.1)
+      (omega (arith, wide, size_few w m few), room, omega (arith, wide), omega (arith, wide), whole_size w m few wide.0)
+
+  doubled : {out out' : List ℕ} → Repeated (unit_symbols n m codes) pattern
+      → Added out 0 size size (by_turns (take (64 * w) pattern)) out'
+      → Added out 0 (w * 2 ^ m) (w * 2 ^ m) (by_turns (unit_symbols n m codes)) out'
+  doubled r =
+      let symbols : List ℕ = unit_symbols n m codes in
+      let as_many : length symbols ≡ w = length-map codes (λ (code : ℕ). at_site n code (2 ^ m)) in
+      same_pattern (size_is w m few wide.1)
+      (λ i. ap (λ (v : ℕ). by_turns (take (64 * v) pattern) i) (sym as_many)
+      ∙ turns symbols pattern (omega (arith, wide)) (omega (arith, wide, as_many)) r i)
+
+pub slice_bounds-pattern-end : goal.slice_bounds-pattern-end
+slice_bounds-pattern-end c = small c.put_pattern.new.pattern c.requires.0 c.requires.1 (search rules)
+
+pub slice_bounds-add-end : goal.slice_bounds-add-end
+slice_bounds-add-end c = sym (taken c.put_pattern.new.pattern c.requires.0 c.requires.1 (search rules))
 
 pub add-requires : goal.add-requires
-add-requires c =
-    asked 2 c.args.m (omega (arith, c.requires.0.few, c.requires.1)) (omega arith) (omega arith) c.if-width-eq2.true c.requires.2
-
-pub returns-then-width-eq2 : goal.returns-then-width-eq2
-returns-then-width-eq2 c =
-    let symbols = ap₂ (λ (x y : ℕ). x ∷ y ∷ []) (unit_symbol c.args.n c.args.m c.requires.0.few c.requires.1 c.requires.0.f_small c.symbols_of-unit.ensures.0).0 (unit_symbol c.args.n c.args.m c.requires.0.few c.requires.1 c.requires.0.g_small c.symbols_of-unit.ensures.1).0 in
-    rw (c.if-width-eq2.true, ← symbols)
-    (doubled _ (omega arith) (omega (arith, c.requires.0.few, c.requires.1)) (omega arith) c.by_twos-pattern.ensures c.add.ensures)
-
-pub overflow_cast-unit-2 : goal.overflow_cast-unit-2
-overflow_cast-unit-2 c = record { fits = (unit_symbol c.args.n c.args.m c.requires.0.few c.requires.1 c.requires.0.f_small c.symbols_of-unit.ensures.0).1 }
-
-pub overflow_cast-unit-3 : goal.overflow_cast-unit-3
-overflow_cast-unit-3 c = record { fits = (unit_symbol c.args.n c.args.m c.requires.0.few c.requires.1 c.requires.0.g_small c.symbols_of-unit.ensures.1).1 }
-
-pub overflow_cast-third : goal.overflow_cast-third
-overflow_cast-third c = record { fits = (unit_symbol c.args.n c.args.m c.requires.0.few c.requires.1 c.requires.0.h_small c.symbols_of-third.ensures.0).1 }
-
-pub add-requires-2 : goal.add-requires-2
-add-requires-2 c =
-    asked 3 c.args.m (omega (arith, c.requires.0.few, c.requires.1)) (omega arith) (omega arith) (three c.requires.0.two_or_three c.if-width-eq2.false) c.requires.2
+add-requires c = asked c.put_pattern.new.pattern c.requires.0 c.requires.1 (search rules) c.requires.2
 
 pub returns : goal.returns
-returns c =
-    let symbols = ap₂ (λ (x : ℕ) (rest : List ℕ). x ∷ rest) (unit_symbol c.args.n c.args.m c.requires.0.few c.requires.1 c.requires.0.f_small c.symbols_of-unit.ensures.0).0
-    (ap₂ (λ (y z : ℕ). y ∷ z ∷ []) (unit_symbol c.args.n c.args.m c.requires.0.few c.requires.1 c.requires.0.g_small c.symbols_of-unit.ensures.1).0 (unit_symbol c.args.n c.args.m c.requires.0.few c.requires.1 c.requires.0.h_small c.symbols_of-third.ensures.0).0) in
-    rw (three c.requires.0.two_or_three c.if-width-eq2.false, ← symbols)
-    (doubled _ (omega arith) (omega (arith, c.requires.0.few, c.requires.1)) (omega arith) c.by_threes-pattern.ensures c.add-2.ensures)
+returns c = doubled c.put_pattern.new.pattern c.requires.0 c.requires.1 (search rules) c.put_pattern.ensures c.add.ensures

@@ -2,9 +2,9 @@
 -- those of the next 2^m are the same exclusive or the symbols at site 2^m.
 use mathlib.Core.Path.{◌≡◌}
 use mathlib.Core.List.{List}
-use Prim.Native.Nat.{ℕ, ◌+◌, ◌-◌, ◌*◌, ◌^◌, ◌≤◌, ◌<◌}
+use Prim.Native.Nat.{ℕ, ◌+◌, ◌*◌, ◌^◌, ◌≤◌, ◌<◌}
 use lib.ListN.{length, get_or}
-use Rattle.squares.specs.Doubling.{codes_of, at_site}
+use Rattle.squares.specs.Doubling.{at_site}
 use Rattle.squares.proofs.fill.Given as goal
 
 -- what is stored: the bytes of the first 2^m sites, and behind them what was there
@@ -15,7 +15,4 @@ pub record Filled (n : ℕ) (codes : List ℕ) (m : ℕ) (lent out : List ℕ) :
   pub high : (j : ℕ) → length codes * 2 ^ m ≤ j → get_or out j 0 ≡ get_or lent j 0
 
 abbrev pub invariant-loop-m : goal.invariant-loop-m
-invariant-loop-m l = Filled l.n (codes_of l.width l.f l.g l.h) l.m l.initial.out l.out × (l.m ≤ 2 * l.n)
-
-abbrev pub decreases-loop-m : goal.decreases-loop-m
-decreases-loop-m l = 2 * l.n - l.m
+invariant-loop-m l = Filled l.n l.codes l.m l.fn.out l.out

@@ -13,11 +13,12 @@ use Rattle.squares.proofs.Sheets.{square_is}
 use Rattle.squares.proofs.lay.Goals as goal
 
 -- the bytes of a sheet
-size_is : {n width f g h : ℕ} → Fillable n width f g h → width * 2 ^ (2 * n) % 2 ^ 64 ≡ width * 4 ^ n
-size_is {n} {width} given =
+size_is : {n : ℕ} {codes : List ℕ} → Fillable n codes → length codes * 2 ^ (2 * n) % 2 ^ 64 ≡ length codes * 4 ^ n
+size_is {n} {codes} given =
+    let width : ℕ = length codes in
     shl_exact {a = width} 2 (2 * n) 64 (narrow given.two_or_three) (omega (arith, given.few)) ∙ ap (λ (v : ℕ). width * v) (square_is n)
   where
-    narrow : (width ≡ 2) ⊎ (width ≡ 3) → width < 4
+    narrow : (length codes ≡ 2) ⊎ (length codes ≡ 3) → length codes < 4
     narrow (inl e) = omega arith
     narrow (inr e) = omega arith
 
@@ -30,16 +31,17 @@ module _ (width n : ℕ) (lent new : List ℕ) where
       → let room : Reply = room_reply width n (length lent) in (served [] ≡ room) × (out ≡ after room new lent)
   long l is = rw (le-ltb (length lent) (width * 4 ^ n) l) (refl, is)
 
-pub returns-then-out-width : goal.returns-then-out-width
-returns-then-out-width c =
-    let (told, kept) = short c.args.width c.args.n c.args.out.now _ (omega (arith, size_is c.requires, c.if-out-width.true)) in
+pub returns-then-out-codes : goal.returns-then-out-codes
+returns-then-out-codes c =
+    let (told, kept) = short (length c.args.codes.now) c.args.n c.args.out.now _ (omega (arith, size_is c.requires, c.if-out-codes.true)) in
     record { result_value = told; out_after = kept }
 
 pub fill-requires : goal.fill-requires
-fill-requires c = (c.requires, omega (arith, size_is c.requires, c.if-out-width.false))
+fill-requires c = (c.requires, omega (arith, size_is c.requires, c.if-out-codes.false))
 
 pub returns : goal.returns
 returns c =
     let a = c.args in
-    let (told, filled) = long a.width a.n a.out.now _ (omega (arith, size_is c.requires, c.if-out-width.false)) c.fill.ensures in
+    let (told, filled) =
+    long (length a.codes.now) a.n a.out.now _ (omega (arith, size_is c.requires, c.if-out-codes.false)) c.fill.ensures in
     record { result_value = told; out_after = filled }

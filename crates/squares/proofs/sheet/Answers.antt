@@ -5,7 +5,6 @@ use mathlib.Core.Bool.{false}
 use mathlib.Core.Path.{◌≡◌, refl, sym, ◌∙◌}
 use Rattle.std.proofs.lemmas.Result.{err_from_is_err_and}
 use Prim.Native.Nat.{ℕ}
-use native.Mathlib.Omega.{arith}
 use Rattle.reply.specs.Reply.{served, unless}
 use Rattle.poly.specs.Limits.{outside}
 use Rattle.poly.specs.Causes.{sheet_degree_cause, code_causes, coprime_causes}
@@ -43,7 +42,7 @@ pub lay-requires : goal.lay-requires
 lay-requires c =
     let a = c.args in
     let none = clear a.n a.f a.g (sym c.outside_sheets.ensures ∙ c.if-outside_sheets.false) c.in_ok-check_coprime.ensures in
-    fillable a.n (a.f ∷ a.g ∷ []) a.out.now none 2 1 (inl refl) (omega arith) (omega arith)
+    fillable a.n (a.f ∷ a.g ∷ []) a.out.now none (inl refl)
 
 pub returns : goal.returns
 returns c =

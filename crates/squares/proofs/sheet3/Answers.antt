@@ -3,7 +3,6 @@ use mathlib.Core.Logic.{inr}
 use mathlib.Core.List.{[], ◌∷◌}
 use mathlib.Core.Path.{refl}
 use Rattle.std.proofs.lemmas.Result.{err_from_is_err_and}
-use native.Mathlib.Omega.{arith}
 use Rattle.squares.proofs.Calls.{bad, fillable, laid}
 use Rattle.squares.proofs.sheet3.Goals as goal
 
@@ -17,7 +16,7 @@ returns-in_err-check_three c =
 pub lay-requires : goal.lay-requires
 lay-requires c =
     let a = c.args in
-    fillable a.n (a.f ∷ a.g ∷ a.h ∷ []) a.out.now c.in_ok-check_three.ensures 3 2 (inr refl) (omega arith) (omega arith)
+    fillable a.n (a.f ∷ a.g ∷ a.h ∷ []) a.out.now c.in_ok-check_three.ensures (inr refl)
 
 pub returns : goal.returns
 returns c =

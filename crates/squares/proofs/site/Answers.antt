@@ -86,7 +86,8 @@ module _ (n f g row col : ℕ) {order : ℕ} (ordered : served (order ∷ []) �
 
     place_lt : row * order + col < 2 ^ 62
     place_lt =
-        rw order_is (Nat.lt_of_lt_of_le (rw (← pow-add 2 n n) at (digits_lt r_lt c_lt)) (pow_mono {i = n + n} {j = 62} (omega (arith, range))))
+        rw order_is
+        (Nat.lt_of_lt_of_le (rw (← pow-add 2 n n) at (digits_lt r_lt c_lt)) (pow_mono {i = n + n} {j = 62} (omega (arith, range))))
 
     -- the symbols from the line of the site's number are those at its row and column
     served_here : {first second reverse : ℕ} → Moved (λ i. 63 - i) (row * order + col) reverse

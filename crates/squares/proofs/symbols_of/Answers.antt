@@ -1,3 +1,4 @@
+-- `symbols_of` meets its contract: the cells that are read are a number with as many digits, so that another one fits.
 use mathlib.Core.Path.{◌≡◌, refl, sym, ap, ◌∙◌}
 use Prim.Native.Nat.{ℕ, ◌+◌, ◌*◌, ◌/◌, ◌%◌, ◌^◌, ◌<◌}
 use native.Mathlib.Nat.{le_refl, mod-lt, lt_of_lt_of_le, div-one}
@@ -22,34 +23,27 @@ few {code} {line} {i} h r =
     (lt_of_lt_of_le (number_lt 2 (le_refl 2) i (parity code line) (λ j. mod-lt _ (omega arith)))
     (pow_mono {i = i} {j = 30} (omega arith)))
 
-pub loop-i-init : goal.loop-i-init
-loop-i-init c = (omega arith, sym (div-one c.args.line), record { are = refl }, record { are = refl })
+pub loop-init : goal.loop-init
+loop-init c = (sym (div-one c.args.line), record { are = refl }, record { are = refl })
 
 pub overflow_mul-first : goal.overflow_mul-first
-overflow_mul-first c = record { fits = omega (arith, few (omega (arith, c.requires)) c.loop-i.invariant.2) }
+overflow_mul-first c = record { fits = omega (arith, few (omega (arith, c.requires)) c.loop.invariant.1) }
 
 pub overflow_add-first : goal.overflow_add-first
-overflow_add-first c = record { fits = omega (arith, few (omega (arith, c.requires)) c.loop-i.invariant.2) }
+overflow_add-first c = record { fits = omega (arith, few (omega (arith, c.requires)) c.loop.invariant.1) }
 
 pub overflow_mul-second : goal.overflow_mul-second
-overflow_mul-second c = record { fits = omega (arith, few (omega (arith, c.requires)) c.loop-i.invariant.3) }
+overflow_mul-second c = record { fits = omega (arith, few (omega (arith, c.requires)) c.loop.invariant.2) }
 
 pub overflow_add-second : goal.overflow_add-second
-overflow_add-second c = record { fits = omega (arith, few (omega (arith, c.requires)) c.loop-i.invariant.3) }
+overflow_add-second c = record { fits = omega (arith, few (omega (arith, c.requires)) c.loop.invariant.2) }
 
-pub loop-i-preserved : goal.loop-i-preserved
-loop-i-preserved c =
-    let (most, shifted, one, two) = c.loop-i.invariant in
-    let less : _ = c.loop-i-test.true in
-    (omega arith, ap (λ (v : ℕ). v / 2) shifted ∙ shr-shr _ c.loop-i.i 1, more shifted one, more shifted two)
+pub loop-preserved : goal.loop-preserved
+loop-preserved c =
+    let (shifted, one, two) = c.loop.invariant in
+    (ap (λ (v : ℕ). v / 2) shifted ∙ shr-shr _ c.loop.counter 1, more shifted one, more shifted two)
 
 pub returns : goal.returns
 returns c =
-    let all : c.loop-i.i ≡ c.args.n = omega (arith, c.loop-i.invariant.0) in
-    let (most, shifted, one, two) = rw all at c.loop-i.invariant in (one.are, two.are)
-
-pub overflow_add-i : goal.overflow_add-i
-overflow_add-i c = omega arith
-
-pub loop-i-smaller : goal.loop-i-smaller
-loop-i-smaller c = omega arith
+    let all : c.loop.counter ≡ c.args.n = omega arith in
+    let (shifted, one, two) = rw all at c.loop.invariant in (one.are, two.are)

@@ -1,6 +1,6 @@
 -- `symbols_of` meets its contract. The invariant: the first i output cells of each symbol are read.
 use mathlib.Core.Path.{◌≡◌}
-use Prim.Native.Nat.{ℕ, ◌-◌, ◌/◌, ◌^◌, ◌≤◌}
+use Prim.Native.Nat.{ℕ, ◌/◌, ◌^◌}
 use Rattle.squares.specs.Symbols.{from_digits}
 use Rattle.squares.specs.Lines.{parity}
 use Rattle.squares.proofs.symbols_of.Given as goal
@@ -9,9 +9,6 @@ use Rattle.squares.proofs.symbols_of.Given as goal
 pub record Read (code line i cells : ℕ) : Type 0 where
   pub are : cells ≡ from_digits 2 i (parity code line)
 
-abbrev pub invariant-loop-i : goal.invariant-loop-i
-invariant-loop-i l =
-    (l.i ≤ l.n) × (l.rest ≡ l.line / 2 ^ l.i) × Read l.f l.line l.i l.first × Read l.g l.line l.i l.second
-
-abbrev pub decreases-loop-i : goal.decreases-loop-i
-decreases-loop-i l = l.n - l.i
+abbrev pub invariant-loop : goal.invariant-loop
+invariant-loop l =
+    (l.rest ≡ l.line / 2 ^ l.counter) × Read l.f l.line l.counter l.first × Read l.g l.line l.counter l.second
