@@ -1,16 +1,41 @@
 // Walks, for C. Each call works on the record that the console lends, which stays as it was where the call is not served.
+ghost use Rattle.std.specs.Prelude.{◌≡◌};
+ghost use Rattle.console.specs.Status.{status_of, stored};
 ghost use Rattle.console.specs.Records.{Starts, Looks, Draws, SetsMark, GoesBack};
 ghost use Rattle.console.specs.Records.{WalkSaved, Loaded};
 
 use crate::answers::{status, store, store_next};
+use reply::Refusal;
 use walk::Walk;
+
+// The status of an answer that gives a walk, which is stored if there is one.
+fn store_walk(answer: Result<Walk, Refusal>, place: &mut Walk) -> u32
+    ensures returned { result ≡ status_of answer }
+    ensures after { place.new ≡ stored answer place.old }
+{
+    match answer {
+        Ok(walk) => {
+            // Field by field, so that no padding is written: else the compiler writes words that lie across two lines of the cache.
+            let marks = walk.marks;
+            let counts = walk.counts;
+            place.degree = walk.degree;
+            place.position = walk.position;
+            place.marks = marks;
+            place.counts = counts;
+            place.f = walk.f;
+            place.g = walk.g;
+            0
+        }
+        Err(refusal) => refusal.number(),
+    }
+}
 
 // Starts a walk of degree n in a record that the console lends.
 #[unsafe(no_mangle)]
 pub extern "C" fn dw_start(n: u32, walk: &mut Walk) -> u32
     ensures { Starts n walk.old walk.new result }
 {
-    store(walk::start(n), walk)
+    store_walk(walk::start(n), walk)
 }
 
 // The next pair of a walk that the console lends.
@@ -58,5 +83,5 @@ pub extern "C" fn dw_save(walk: &Walk, out: &mut [u8], size: &mut usize) -> u32
 pub extern "C" fn dw_load(file: &[u8], walk: &mut Walk) -> u32
     ensures { Loaded file.now walk.old walk.new result }
 {
-    store(saved::load(file), walk)
+    store_walk(saved::load(file), walk)
 }

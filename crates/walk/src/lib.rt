@@ -98,7 +98,8 @@ impl Walk {
         Ok(())
     }
 
-    // The length of the list, if the record passes that test.
+    // The length of the list, if the record passes that test. Inlined, since a look took a quarter more with a call of it.
+    #[inline]
     fn length(&self) -> Result<u64, Refusal>
         ensures passes { IfOk result (λ length. (bad_record self.now ≡ false) × (length ≡ list_length self.now.degree)) }
         ensures refuses { IfErr result (λ why. refused (number_of why) ≡ unless (record_cause self.now ∷ []) (served [])) }
@@ -116,7 +117,7 @@ impl Walk {
         Ok(length)
     }
 
-    // The same, and then the test of the number of a mark or a bonder.
+    // The same, and then the test of the number of a mark or a bonder. With this one inlined too, a draw took 5 ns more from degree 11 on.
     fn length_for(&self, number: u32, refusal: Refusal) -> Result<u64, Refusal>
         ensures passes { IfOk result (λ length. (bad_record self.now ≡ false) × (number ≤ 7) × (length ≡ list_length self.now.degree)) }
         ensures refuses { IfErr result (λ why.
