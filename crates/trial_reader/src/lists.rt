@@ -48,8 +48,8 @@ fn decode_levels(file: &[u8], at: usize, count: usize, out: &mut [u16]) -> Decod
     }
 }
 
-// Reads so many levels at a position of the file to the front of `out`, and gives the position behind them; where they are refused, some may
-// be there already. A level equal to an earlier one is refused before what stopped the reading, which stands behind it.
+// Reads so many levels at a position of the file to the front of `out`, and gives the position behind them; where they are refused, some
+// may be there already. A level equal to an earlier one is refused before what stopped the reading, which stands behind it.
 fn read_levels(file: &[u8], at: usize, count: usize, out: &mut [u16]) -> Result<usize, Refusal>
     requires { (at ≤ length file.now) × (count ≤ length out.old) }
     ensures { ListRead file.now at count result out.new }
@@ -61,26 +61,31 @@ fn read_levels(file: &[u8], at: usize, count: usize, out: &mut [u16]) -> Result<
     decoded.behind
 }
 
-// Reads the lists that the version has, each of so many levels, to the front of three slices, and gives the position behind them.
+// Room for the levels of a file while it is read.
+#[derive(Drop)]
+pub(crate) struct Levels {
+    pub powers: [u16; 64],
+    pub forces: [u16; 64],
+    pub times: [u16; 64],
+}
+
+// Reads the lists that the version has, each of so many levels, to the front of their arrays, and gives the position behind them.
 pub(crate) fn read_lists(
     file: &[u8],
     at: usize,
     head: Head,
     count: usize,
-    powers: &mut [u16],
-    forces: &mut [u16],
-    times: &mut [u16],
+    levels: &mut Levels,
 ) -> Result<usize, Refusal>
-    requires inside { at ≤ length file.now }
-    requires count_in_bounds { (count ≤ length powers.old) × (count ≤ length forces.old) × (count ≤ length times.old) }
-    ensures { ListsRead file.now at head.h count result powers.new forces.new times.new }
+    requires { (at ≤ length file.now) × (count ≤ 64) }
+    ensures { ListsRead file.now at head.h count result levels.new.powers levels.new.forces levels.new.times }
 {
-    let at = read_levels(file, at, count, powers)?;
-    let at = read_levels(file, at, count, forces)?;
+    let at = read_levels(file, at, count, &mut levels.powers)?;
+    let at = read_levels(file, at, count, &mut levels.forces)?;
     if head.h.is_none() {
         return Ok(at);
     }
-    read_levels(file, at, count, times)
+    read_levels(file, at, count, &mut levels.times)
 }
 
 // Copies so many levels to the front of `out`.

@@ -7,7 +7,7 @@ ghost use Rattle.trial_reader.specs.Inner.{head_of, thirds, Surveys, content_fro
 ghost use Rattle.trial_reader.specs.Answers.{ReadDone, name_part, Opens};
 
 use crate::fields::{Head, read_head};
-use crate::lists::{copy_levels, read_lists};
+use crate::lists::{Levels, copy_levels, read_lists};
 use crate::names::read_name;
 use poly::Degree;
 use reply::Refusal;
@@ -21,19 +21,13 @@ struct Layout {
     pub size: usize,
 }
 
-// The whole decision on a file, with the levels of an accepted one at the front of the slices.
-fn survey(
-    file: &[u8],
-    powers: &mut [u16],
-    forces: &mut [u16],
-    times: &mut [u16],
-) -> Result<Layout, Refusal>
-    requires { (64 ≤ length powers.old) × (64 ≤ length forces.old) × (64 ≤ length times.old) }
-    ensures { Surveys parse file.now 0 result powers.new forces.new times.new }
+// The whole decision on a file, with the levels of an accepted one at the front of their arrays.
+fn survey(file: &[u8], levels: &mut Levels) -> Result<Layout, Refusal>
+    ensures { Surveys parse file.now 0 result levels.new.powers levels.new.forces levels.new.times }
 {
     let (head, at) = read_head(file)?;
     let order = (Degree { n: head.degree }).order()?;
-    survey_body(file, head, order as usize, at, powers, forces, times)
+    survey_body(file, head, order as usize, at, levels)
 }
 
 // The same behind the head, with so many levels to a list.
@@ -42,16 +36,13 @@ fn survey_body(
     head: Head,
     count: usize,
     at: usize,
-    powers: &mut [u16],
-    forces: &mut [u16],
-    times: &mut [u16],
+    levels: &mut Levels,
 ) -> Result<Layout, Refusal>
-    requires count_value { (count ≡ 2 ^ head.degree) × (count ≤ 64) × (at ≤ length file.now) }
-    requires in_bounds { (64 ≤ length powers.old) × (64 ≤ length forces.old) × (64 ≤ length times.old) }
+    requires { (count ≡ 2 ^ head.degree) × (count ≤ 64) × (at ≤ length file.now) }
     ensures { Surveys (parse_body today (head_of head)) file.now at result
-        powers.new forces.new times.new }
+        levels.new.powers levels.new.forces levels.new.times }
 {
-    let at = read_lists(file, at, head, count, powers, forces, times)?;
+    let at = read_lists(file, at, head, count, levels)?;
     let name = read_name(file, at)?;
     Ok(Layout {
         head,
@@ -102,13 +93,19 @@ pub fn read(
     if times.len() < 64 {
         return Err(Refusal::SliceLength);
     }
-    let mut powers_read = [0u16; 64];
-    let mut forces_read = [0u16; 64];
-    let mut times_read = [0u16; 64];
-    let layout = survey(file, &mut powers_read, &mut forces_read, &mut times_read)?;
-    copy_levels(&powers_read, layout.count, powers);
-    copy_levels(&forces_read, layout.count, forces);
-    copy_levels(&times_read, times_count(layout.head.h, layout.count), times);
+    let mut levels = Levels {
+        powers: [0; 64],
+        forces: [0; 64],
+        times: [0; 64],
+    };
+    let layout = survey(file, &mut levels)?;
+    copy_levels(&levels.powers, layout.count, powers);
+    copy_levels(&levels.forces, layout.count, forces);
+    copy_levels(
+        &levels.times,
+        times_count(layout.head.h, layout.count),
+        times,
+    );
     Ok(content_of(layout))
 }
 

@@ -36,8 +36,8 @@ returns-in_err-order c =
     let head = c.in_ok-head.head in
     absurd (order_there head.degree (head-degree c.args.file.now (sym c.in_ok-head.ensures.says)) c.in_err-order.ensures)
 
-pub survey_body-requires-clause-count_value : goal.survey_body-requires-clause-count_value
-survey_body-requires-clause-count_value c =
+pub survey_body-requires : goal.survey_body-requires
+survey_body-requires c =
     let head = c.in_ok-head.head in
     let degree = head-degree c.args.file.now (sym c.in_ok-head.ensures.says) in
     let same = order_is head.degree degree c.in_ok-order.ensures in

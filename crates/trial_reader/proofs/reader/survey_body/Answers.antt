@@ -31,7 +31,7 @@ unfolding parse_body
 returns-in_err-at c =
     let a = c.args in
     let p = err_from_is_err_and c.from_residual.result c.from_residual.ensures.1 in
-    let refused = not_given a.file.now a.at a.head.h a.head.degree a.count c.requires.count_value.0 c.in_err-at.ensures in
+    let refused = not_given a.file.now a.at a.head.h a.head.degree a.count c.requires.0 c.in_err-at.ensures in
     rw (p.1, p.2) (record { says = rw refused; inside = tt })
 
 pub returns-in_err-name : goal.returns-in_err-name
@@ -39,16 +39,16 @@ unfolding parse_body
 returns-in_err-name c =
     let a = c.args in
     let p = err_from_is_err_and c.from_residual-in_err-name.result c.from_residual-in_err-name.ensures.1 in
-    let lists = given a.file.now a.at a.head.h a.head.degree a.count c.requires.count_value.0 c.in_ok-at.ensures in
+    let lists = given a.file.now a.at a.head.h a.head.degree a.count c.requires.0 c.in_ok-at.ensures in
     rw (p.1, p.2) (record { says = rw (lists, ← c.in_err-name.ensures.says); inside = tt })
 
 pub returns : goal.returns
 unfolding parse_body
 returns c =
     let a = c.args in
-    let lists = given a.file.now a.at a.head.h a.head.degree a.count c.requires.count_value.0 c.in_ok-at.ensures in
+    let lists = given a.file.now a.at a.head.h a.head.degree a.count c.requires.0 c.in_ok-at.ensures in
     let name = c.in_ok-name.ensures in
     record {
       says = rw (lists, ← name.says);
-      inside = record { few = c.requires.count_value.1; last = name.inside };
+      inside = record { few = c.requires.1; last = name.inside };
     }
