@@ -2,7 +2,7 @@
 use mathlib.Core.Bool.{Bool, true, false}
 use mathlib.Core.List.{List, [], ◌∷◌, map}
 use mathlib.Core.Path.{◌≡◌, refl, sym, ap, ◌∙◌}
-use Prim.Native.Nat.{ℕ, ◌+◌, ◌≤◌, ◌<◌}
+use Prim.Native.Nat.{ℕ, ◌+◌, ◌*◌, ◌/◌, ◌≤◌, ◌<◌}
 use native.Mathlib.Nat.{zero-add}
 use native.Mathlib.Omega.{arith}
 use borrow.Author.Tests.{leb-true}
@@ -38,6 +38,27 @@ module _ (position many : ℕ) (codes : List ℕ) where
 
   pub no_more : drop many (lines_from position many codes) ≡ []
   no_more = drop_of_length-le (lines_from position many codes) {i = many} (omega (arith, listed_lines.long))
+
+  -- The numbers behind those of the pairs do not count.
+  pub lines_front : 2 * many ≤ length codes
+      → lines_from position (length (take (2 * many) codes) / 2) (take (2 * many) codes) ≡ lines_from position many codes
+  lines_front room = rw half (ext_get_or [] _ _ (front.long ∙ sym listed_lines.long) (λ i h. same i (rw front.long at h)))
+    where
+      half : length (take (2 * many) codes) / 2 ≡ many
+      half = omega (arith, length-take (2 * many) codes)
+
+      front : Listed (lines_from position many (take (2 * many) codes)) many (line_from position (take (2 * many) codes)) []
+      front = listed (line_from position (take (2 * many) codes)) many
+
+      pair : (i : ℕ) → i < many → line_from position (take (2 * many) codes) i ≡ line_from position codes i
+      pair i h =
+          let f : 2 * i < 2 * many = omega arith in
+          let g : 2 * i + 1 < 2 * many = omega arith in
+          rw (get_or-take (2 * many) codes (2 * i) 0 f, get_or-take (2 * many) codes (2 * i + 1) 0 g)
+
+      same : (i : ℕ) → i < many
+          → get_or (lines_from position many (take (2 * many) codes)) i [] ≡ get_or (lines_from position many codes) i []
+      same i h = front.stands i h ∙ pair i h ∙ sym (listed_lines.stands i h)
 
 pub listed_entries : (n : ℕ) → outside 1 31 n ≡ false → Listed (entry_lines n) (list_length n) (entry_line n) []
 unfolding entry_lines

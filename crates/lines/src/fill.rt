@@ -1,7 +1,8 @@
 // Fills lent bytes with the lines of a degree's list.
-ghost use Rattle.std.specs.Prelude.{◌^◌, ◌≤◌, ◌<◌, length};
+ghost use Rattle.std.specs.Prelude.{◌/◌, ◌^◌, ◌≤◌, ◌<◌, [], ◌∷◌, length};
+ghost use Rattle.lines.specs.Text.{line};
 ghost use Rattle.lines.specs.Filling.{Fills};
-ghost use Rattle.lines.specs.Inner.{Adds, AddsLine, block_lines, line_from, lines_from};
+ghost use Rattle.lines.specs.Inner.{Adds, AddsLine, block_lines, lines_from};
 
 use crate::text::{copy, pair_line, put_pair};
 use pairs::Pair;
@@ -37,7 +38,7 @@ fn add_block(n: u32, position: u64, out: &mut [u8], used: usize) -> Filling
 {
     let mut codes = [0u32; 512];
     match listing::pairs_from(n, position, &mut codes) {
-        Ok(many) => add_lines(position, many, &codes, out, used),
+        Ok(many) => add_lines(position, &codes[..2 * many], out, used),
         Err(_) => Filling {
             used,
             next: position,
@@ -45,14 +46,20 @@ fn add_block(n: u32, position: u64, out: &mut [u8], used: usize) -> Filling
     }
 }
 
-// The same from the codes of the pairs from a position on.
-fn add_lines(from: u64, many: usize, codes: &[u32; 512], out: &mut [u8], used: usize) -> Filling
-    requires { (from < 2 ^ 63) × (many ≤ 256) × (used ≤ length out.old) }
-    ensures { Adds (lines_from from many codes.now) from out.old used result.used result.next out.new }
+// The same from the codes of the pairs from a position on. Where `pairs_from` gave them, each line is that of its pair's own position (the
+// law `block_lines_lem`).
+fn add_lines(from: u64, codes: &[u32], out: &mut [u8], used: usize) -> Filling
+    requires { (from < 2 ^ 63) × (length codes.now ≤ 512) × (used ≤ length out.old) }
+    ensures { Adds (lines_from from (length codes.now / 2) codes.now) from out.old used result.used result.next out.new }
 {
+    let many = codes.len() / 2;
     let mut end = used;
     for i in 0..many {
-        let next = add_line(from, i, codes, out, end);
+        let pair = Pair {
+            f: codes[2 * i],
+            g: codes[2 * i + 1],
+        };
+        let next = add_line(from + i as u64, pair, out, end);
         if next == end {
             return Filling {
                 used: end,
@@ -67,23 +74,18 @@ fn add_lines(from: u64, many: usize, codes: &[u32; 512], out: &mut [u8], used: u
     }
 }
 
-// The line of the i-th pair behind the `used` bytes, where it fits. With room for any line it is made in its place, else apart. Where
-// `pairs_from` gave the codes, it is the line of the pair's own position (the law `block_lines_lem`).
-fn add_line(from: u64, i: usize, codes: &[u32; 512], out: &mut [u8], used: usize) -> usize
-    requires { (from < 2 ^ 63) × (i < 256) × (used ≤ length out.old) }
-    ensures { AddsLine (line_from from codes.now i) out.old used result out.new }
+// The line of a pair behind the `used` bytes, where it fits. With room for any line it is made in its place, else apart.
+fn add_line(position: u64, pair: Pair, out: &mut [u8], used: usize) -> usize
+    requires { used ≤ length out.old }
+    ensures { AddsLine (line (position ∷ pair.f ∷ pair.g ∷ [])) out.old used result out.new }
 {
-    let pair = Pair {
-        f: codes[2 * i],
-        g: codes[2 * i + 1],
-    };
     if 63 <= out.len() - used {
-        return put_pair(from + i as u64, pair, out, used);
+        return put_pair(position, pair, out, used);
     }
-    let mut line = [0u8; 64];
-    let size = pair_line(from + i as u64, pair, &mut line);
+    let mut text = [0u8; 64];
+    let size = pair_line(position, pair, &mut text);
     if out.len() - used < size {
         return used;
     }
-    copy(&line[..size], out, used)
+    copy(&text[..size], out, used)
 }

@@ -1,6 +1,7 @@
 -- `add_line` meets its contract: the line is put where it fits, and else nothing is done.
+use mathlib.Core.List.{[], ◌∷◌}
 use native.Mathlib.Omega.{arith}
-use Rattle.lines.specs.Inner.{line_from}
+use Rattle.lines.specs.Text.{line}
 use Rattle.lines.proofs.Putting.{lined_front}
 use Rattle.lines.proofs.Fitting.{line_fits, line_full}
 use Rattle.lines.proofs.fill.add_line.Goals as goal
@@ -13,7 +14,7 @@ returns-then-out-used-ge63 c =
 pub returns-then-out-used : goal.returns-then-out-used
 returns-then-out-used c =
     let a = c.args in
-    line_full (line_from a.from a.codes.now a.i) (omega (arith, c.pair_line-size.ensures.size, c.if-out-used.true))
+    line_full (line (a.position ∷ a.pair.f ∷ a.pair.g ∷ [])) (omega (arith, c.pair_line-size.ensures.size, c.if-out-used.true))
 
 pub returns : goal.returns
 returns c =

@@ -44,26 +44,22 @@ pub loop-i-init : goal.loop-i-init
 loop-i-init c = begun c.requires.2
 
 pub add_line-next-requires : goal.add_line-next-requires
-add_line-next-requires c =
-    (c.requires.0, omega arith, c.loop-i.invariant.room)
+add_line-next-requires c = c.loop-i.invariant.room
 
 pub shape_of-out-then-next-end : goal.shape_of-out-then-next-end
 shape_of-out-then-next-end c =
     let a = c.args in
-    let below = c.loop-i-test.true in
-    kept a.from a.many a.codes.now c.loop-i.invariant below c.add_line-next.ensures c.if-next-end.true
+    kept a.from _ a.codes.now c.loop-i.invariant c.loop-i-test.true c.add_line-next.ensures c.if-next-end.true
 
 pub returns-then-next-end : goal.returns-then-next-end
 returns-then-next-end c =
     let a = c.args in
-    let below = c.loop-i-test.true in
-    stops a.from a.many a.codes.now c.loop-i.invariant below c.add_line-next.ensures c.if-next-end.true
+    stops a.from _ a.codes.now c.loop-i.invariant c.loop-i-test.true c.add_line-next.ensures c.if-next-end.true
 
 pub loop-i-preserved : goal.loop-i-preserved
 loop-i-preserved c =
     let a = c.args in
-    let below = c.loop-i-test.true in
-    goes_on a.from a.many a.codes.now c.loop-i.invariant below c.add_line-next.ensures c.if-next-end.false
+    goes_on a.from _ a.codes.now c.loop-i.invariant c.loop-i-test.true c.add_line-next.ensures c.if-next-end.false
 
 pub shape_of-out : goal.shape_of-out
 shape_of-out c = c.loop-i.invariant.kept
@@ -71,4 +67,4 @@ shape_of-out c = c.loop-i.invariant.kept
 pub returns : goal.returns
 returns c =
     let a = c.args in
-    ends a.from a.many a.codes.now c.loop-i.invariant (omega arith)
+    ends a.from _ a.codes.now c.loop-i.invariant (omega arith)
