@@ -29,6 +29,7 @@ fn print_list<W: Write>(out: &mut W, n: u32) -> io::Result<()> {
 }
 
 // A large buffer, since a call of the system for each line would take most of the time. Only the list's end leaves it empty.
+#[tactic(auto, using(crate::proofs::Printed::fills_on))]
 fn print_entries<W: Write>(out: &mut W, n: u32) -> io::Result<()> {
     let mut buffer = [0u8; 65536];
     let mut position: u64 = 0;

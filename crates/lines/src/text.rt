@@ -53,6 +53,7 @@ fn field(n: u64, end: u8, out: &mut [u8], at: usize) -> usize
 }
 
 // Puts bytes at a position of `out`, and gives the position behind them.
+#[tactic(auto, unfolding(crate::specs::Text::put))]
 pub(crate) fn copy(bytes: &[u8], out: &mut [u8], at: usize) -> usize
     requires { at + length bytes.now ≤ length out.old }
     ensures { Placed out.old at bytes.now result out.new }

@@ -6,11 +6,6 @@ use Rattle.lines.proofs.Putting.{lined_front}
 use Rattle.lines.proofs.Fitting.{line_fits, line_full}
 use Rattle.lines.proofs.fill.add_line.Goals as goal
 
-pub returns-then-out-used-ge63 : goal.returns-then-out-used-ge63
-returns-then-out-used-ge63 c =
-    let put = c.put_pair.ensures in
-    line_fits (omega (arith, put.placed.next, put.upper_bound, c.if-out-used-ge63.true)) put.placed
-
 pub returns-then-out-used : goal.returns-then-out-used
 returns-then-out-used c =
     let a = c.args in
