@@ -1,3 +1,4 @@
+-- `fill_lines` meets its contract: a whole block more is put, or the block is the last, since fewer lines than it has positions are put.
 use mathlib.Core.List.{List}
 use Prim.Native.Nat.{ℕ, ◌+◌, ◌-◌, ◌≤◌, ◌<◌}
 use native.Mathlib.Nat.{sub-zero, sub_self, add-sub_of_le}
