@@ -5,7 +5,8 @@ use Rattle.trial.specs.Trial.{Trial}
 use Rattle.trial.specs.Replies.{read_reply, name_read, levels_after, write_reply, file_after}
 use Rattle.trial_reader.specs.Answers.{read_into}
 use Rattle.walk.specs.declared.Walk.{Walk}
-use Rattle.walk.specs.Walks.{begun, start_reply, look_reply, draw_reply, after_draw, set_mark_reply, after_set_mark, go_back_reply, after_go_back}
+use Rattle.walk.specs.Walks.{begun, start_reply, look_reply, draw_reply, after_draw, set_mark_reply}
+use Rattle.walk.specs.Walks.{after_set_mark, go_back_reply, after_go_back}
 use Rattle.saved.specs.Saved.{load}
 use Rattle.saved.specs.Replies.{save_reply, file_after as saved_after, load_reply, record_read}
 use Rattle.console.specs.Status.{status, value}

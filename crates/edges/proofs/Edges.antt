@@ -25,7 +25,8 @@ use Rattle.edges.specs.Table.{EdgesClaim}
 pub edges : EdgesClaim
 unfolding add mul scale degree inverse bring_down divide gcd outside off_degree code_causes
     chain words_from compositions sequences block turn build pairs pair_at_reply
-    position_reply pairs_from from_reply output_cell symbol site_reply sheet sheet_reply_of sheet_of sheet_bytes_of next_pair bad_record look_reply
+    position_reply pairs_from from_reply output_cell symbol site_reply
+    sheet sheet_reply_of sheet_of sheet_bytes_of next_pair bad_record look_reply
     draw_reply after_draw encode_number parse_number encode_head encode_body encode parse_coprime parse_head
     parse_text parse_name parse_end parse_body parse content_causes read write_reply
 edges = refl

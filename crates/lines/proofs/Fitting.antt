@@ -60,7 +60,8 @@ fitting_more (suc m) room (l ∷ lines) = go (leb (length l) room) refl (fitting
     front = fitting_lines (room - length l) (take m lines)
 
     go : (t : Bool) → leb (length l) room ≡ t
-        → fitting_lines (room - length l) lines ≡ front ++ fitting_lines (room - length l - length (joined front)) (drop (length front) lines)
+        → fitting_lines (room - length l) lines
+        ≡ front ++ fitting_lines (room - length l - length (joined front)) (drop (length front) lines)
         → let some : List (List ℕ) = cond t (l ∷ front) [] in
         cond t (l ∷ fitting_lines (room - length l) lines) []
         ≡ some ++ fitting_lines (room - length (joined some)) (drop (length some) (l ∷ lines))

@@ -1,6 +1,6 @@
 // Prints what the list program prints for inputs on the edges, and for degree 6, whose list is longer than a block, to be held against
-// tests/list_reference.py. Of the list of degree 10, which is longer than a buffer, the first lines and the last are printed, and a checksum
-// of all.
+// tests/list_reference.py. Of the list of degree 10, which is longer than a buffer, the first lines and the last are printed, and a
+// checksum of all.
 #![tactic(auto)]
 
 use std::io;
