@@ -54,6 +54,7 @@ module _ (file : List ℕ) (kind at₁ : ℕ) (kind_read : parsed kind (drop at�
             pub no_counts : {k : ℕ} → failed k ≡ fields limits64 (at_most full_count) 8 (drop at₄ file) → load file ≡ failed k
             no_counts e = place_of 2 two ∙ rw (← no_limit 8 (drop at₃ file), ← marks_read, ← e)
 
-            pub second_kind : (counts : List ℕ) (at₅ : ℕ) → parsed counts (drop at₅ file) ≡ fields limits64 (at_most full_count) 8 (drop at₄ file)
+            pub second_kind : (counts : List ℕ) (at₅ : ℕ)
+                → parsed counts (drop at₅ file) ≡ fields limits64 (at_most full_count) 8 (drop at₄ file)
                 → load file ≡ parse_last (walk_at degree position marks counts) (drop at₅ file)
             second_kind counts at₅ e = place_of 2 two ∙ rw (← no_limit 8 (drop at₃ file), ← marks_read, ← e)

@@ -1,5 +1,5 @@
--- Only a contract inside the crate uses these definitions: eight numbers read from a file, with a position of the file standing for the bytes
--- from there on.
+-- Only a contract inside the crate uses these definitions: eight numbers read from a file, with a position of the file standing for the
+-- bytes from there on.
 use Rattle.std.specs.Prelude.{◌≡◌, ℕ, ◌≤◌, List, [], ◌∷◌, Result, Ok, Err, ltb, length, drop}
 use Rattle.reply.specs.Reply.{Cause, ◌gives◌}
 use Rattle.reply.specs.Numbers.{number_of}

@@ -60,9 +60,6 @@ module _ (walk : Walk) where
           counts = not_above_lem full_count walk.counts counts;
         }
 
-    pub degree_good : outside 1 31 n ≡ false
-    degree_good = inside 1 31 good.degree_low good.degree_high
-
     -- the next position is a number of 64 bits
     pub next_fits : position + 1 < 2 ^ 64
     next_fits =

@@ -7,8 +7,8 @@ ghost use Rattle.reply.specs.Reply.{served, refused, ◌gives◌, unless};
 ghost use Rattle.poly.specs.Limits.{list_length};
 ghost use Rattle.poly.specs.Replies.{checked_reply};
 ghost use Rattle.walk.specs.Walks.{begun, change_reply, start_reply, started, any_above, bad_record, record_cause, next_reply, righted};
-ghost use Rattle.walk.specs.Walks.{look_reply, draw_reply, moved_on, after_draw, set_mark_reply, after_set_mark, go_back_reply, after_go_back};
-ghost use Rattle.walk.specs.Walks.{set_right_reply, after_set_right};
+ghost use Rattle.walk.specs.Walks.{look_reply, draw_reply, moved_on, after_draw, set_mark_reply, after_set_mark};
+ghost use Rattle.walk.specs.Walks.{go_back_reply, after_go_back, set_right_reply, after_set_right};
 
 use pairs::Pair;
 use poly::Degree;
@@ -180,16 +180,15 @@ impl Walk {
     }
 
     // The pair that the record holds, for a bonder. Where it gives one, the record is moved on.
-    pub fn drawn(self, bonder: u32) -> Drawn
+    pub fn drawn(mut self, bonder: u32) -> Drawn
         ensures reply { next_reply result.answer ≡ draw_reply self bonder }
         ensures record { result.walk ≡ after_draw self bonder }
     {
-        let mut walk = self;
         let answer = self.offer(bonder);
         if gives(answer) {
-            walk.move_on(bonder);
+            self.move_on(bonder);
         }
-        Drawn { answer, walk }
+        Drawn { answer, walk: self }
     }
 
     // The draw from a lent record, a thin one over the core by value: document 01 asks for both.

@@ -1,3 +1,4 @@
+-- A turn of the loop looks at the number behind those that were looked at.
 use mathlib.Core.Bool.{Bool, ◌||◌}
 use mathlib.Core.Path.{sym, ap, ◌∙◌}
 use Prim.Native.Nat.{ℕ, ◌<◌}

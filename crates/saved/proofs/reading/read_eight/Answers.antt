@@ -1,3 +1,4 @@
+-- What a turn of the loop reads, by what is known of the numbers before it.
 use mathlib.Core.Path.{sym}
 use Rattle.std.proofs.lemmas.Result.{err_from_is_err_and}
 use Rattle.saved.proofs.Eights.{all_read, not_read, too_high, one_read}

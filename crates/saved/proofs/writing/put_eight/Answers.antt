@@ -1,3 +1,4 @@
+-- A turn of the loop puts the first of the numbers that are left.
 use mathlib.Core.List.{List, ◌++◌}
 use Prim.Native.Nat.{ℕ, suc, ◌<◌}
 use native.Mathlib.Numerals.{add-one}

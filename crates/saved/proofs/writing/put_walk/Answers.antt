@@ -37,7 +37,8 @@ put_eight-requires c =
     let w = c.args.walk.now in
     room_left
     (bytes_put (encode_numbers w.marks)
-    (put₃ w c.requires c.put_number-at.ensures (rw c.from.ensures at c.put_number-at-2.ensures) c.put_number-at-3.ensures) c.put_eight-at.ensures)
+    (put₃ w c.requires c.put_number-at.ensures (rw c.from.ensures at c.put_number-at-2.ensures) c.put_number-at-3.ensures)
+    c.put_eight-at.ensures)
     (room w c.args.out.now c.requires)
 
 pub returns : goal.returns
@@ -45,5 +46,6 @@ returns c =
     let w = c.args.walk.now in
     last_put
     (bytes_put (encode_numbers w.marks)
-    (put₃ w c.requires c.put_number-at.ensures (rw c.from.ensures at c.put_number-at-2.ensures) c.put_number-at-3.ensures) c.put_eight-at.ensures)
+    (put₃ w c.requires c.put_number-at.ensures (rw c.from.ensures at c.put_number-at-2.ensures) c.put_number-at-3.ensures)
+    c.put_eight-at.ensures)
     c.put_eight.ensures
