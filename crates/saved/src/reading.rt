@@ -7,15 +7,12 @@ ghost use Rattle.saved.specs.Inner.{EightRead};
 
 use leb128::read_number;
 use reply::Refusal;
-use walk::Walk;
+use walk::{FULL_COUNT, Walk};
 
 // What consoles stored before, degree and position; and what is saved today, which adds the marks and the counts.
 const FIRST_KIND: u64 = 1;
 
 const LAST_KIND: u64 = 2;
-
-// The highest count.
-const FULL_COUNT: u64 = 1000000000000000000;
 
 // Eight numbers at a position of the file, each refused as a count where it is above `most`; and the position behind them.
 fn read_eight(file: &[u8], at: usize, most: u64) -> Result<([u64; 8], usize), Refusal>

@@ -15,7 +15,7 @@ use poly::Degree;
 use reply::Refusal;
 
 // The highest count.
-const FULL_COUNT: u64 = 1000000000000000000;
+pub const FULL_COUNT: u64 = 1000000000000000000;
 
 // Document 01's walk record, with document 02's eight marks, eight counts and next pair. A mark is 0 if it is empty, else the marked
 // position plus 1; a count is how many pairs its bonder was given. The next pair, f and g, is 0 and 0 when the walk is spent; in a record

@@ -22,9 +22,3 @@ pub returns-else-n-ge2 : goal.returns-else-n-ge2
 returns-else-n-ge2 c =
     let n = c.args.n in
     holding n 0 (replicate 8 0) (replicate 8 0) (next_end n 0 (nothing n c.if-n-ge2.false))
-
-pub overflow_add-walk : goal.overflow_add-walk
-overflow_add-walk c = record { fits = omega (arith, small c) }
-
-pub overflow_add-walk-then-n-ge2 : goal.overflow_add-walk-then-n-ge2
-overflow_add-walk-then-n-ge2 c = record { fits = omega (arith, small c) }
