@@ -55,9 +55,9 @@ fn graeco_latin(order: usize, sheet: &[u8]) -> bool
     let mut firsts = [0u64; 64];
     let mut seconds = [0u64; 64];
     let mut pairs = [0u64; 64];
-    let mut row: usize = 0;
-    while row < order {
-        let next = row_after(order, row);
+    for two in 0..order.div_ceil(2) {
+        let row = 2 * two;
+        let next = (row + 1).min(order - 1);
         if !two_rows(
             order,
             sheet,
@@ -70,15 +70,8 @@ fn graeco_latin(order: usize, sheet: &[u8]) -> bool
         ) {
             return false;
         }
-        row += 2;
     }
-    if !all_full(order, &firsts) {
-        return false;
-    }
-    if !all_full(order, &seconds) {
-        return false;
-    }
-    all_full(order, &pairs)
+    all_full(order, &firsts) && all_full(order, &seconds) && all_full(order, &pairs)
 }
 
 // The sets of one symbol each: a load from memory takes less than a shift.
@@ -87,23 +80,10 @@ fn singles(order: usize) -> [u64; 64]
     ensures { Singles order result }
 {
     let mut one = [0u64; 64];
-    let mut symbol: usize = 0;
-    while symbol < order {
+    for symbol in 0..order {
         one[symbol] = 1 << symbol;
-        symbol += 1;
     }
     one
-}
-
-// The next row, or the same one if it is the last.
-fn row_after(order: usize, row: usize) -> usize
-    requires { row < order }
-    ensures { result ≡ min (row + 1) (order - 1) }
-{
-    if row + 1 < order {
-        return row + 1;
-    }
-    row
 }
 
 // Whether two rows are permutations of the symbols, in both squares; and their symbols are put into the tables, whatever the answer. Two at
@@ -130,12 +110,11 @@ fn two_rows(
     let start = row * order;
     let start_next = next * order;
     // The sets of the first and the second symbols of the one row, and of the next.
-    let mut first: u64 = 0;
-    let mut second: u64 = 0;
-    let mut first_next: u64 = 0;
-    let mut second_next: u64 = 0;
-    let mut col: usize = 0;
-    while col < order {
+    let mut first = 0;
+    let mut second = 0;
+    let mut first_next = 0;
+    let mut second_next = 0;
+    for col in 0..order {
         let at = 2 * (start + col);
         let at_next = 2 * (start_next + col);
         let a = sheet[at] as usize;
@@ -146,19 +125,15 @@ fn two_rows(
         let of_b = single[b];
         let of_c = single[c];
         let of_d = single[d];
-        first = first | of_a;
-        second = second | of_b;
-        first_next = first_next | of_c;
-        second_next = second_next | of_d;
+        first |= of_a;
+        second |= of_b;
+        first_next |= of_c;
+        second_next |= of_d;
         put_two(firsts, col, of_a, col, of_c);
         put_two(seconds, col, of_b, col, of_d);
         put_two(pairs, a, of_b, c, of_d);
-        col += 1;
     }
-    if !both_full(order, first, second) {
-        return false;
-    }
-    both_full(order, first_next, second_next)
+    both_full(order, first, second) && both_full(order, first_next, second_next)
 }
 
 // Adds x to set number a of a table, then y to set number b.
@@ -166,8 +141,8 @@ fn put_two(table: &mut [u64; 64], a: usize, x: u64, b: usize, y: u64)
     requires { (a < 64) × (b < 64) }
     ensures { table.new ≡ added (added table.old a x) b y }
 {
-    table[a] = table[a] | x;
-    table[b] = table[b] | y;
+    table[a] |= x;
+    table[b] |= y;
 }
 
 // The set of all symbols below the order.
@@ -175,7 +150,7 @@ fn full(order: usize) -> u64
     requires { (1 ≤ order) × (order ≤ 64) }
     ensures { result ≡ 2 ^ order - 1 }
 {
-    18446744073709551615 >> (64 - order)
+    u64::MAX >> (64 - order)
 }
 
 // Whether two sets both have all symbols.
@@ -184,10 +159,7 @@ fn both_full(order: usize, first: u64, second: u64) -> bool
     ensures { result ≡ (eqb first (2 ^ order - 1) && eqb second (2 ^ order - 1)) }
 {
     let all = full(order);
-    if first != all {
-        return false;
-    }
-    second == all
+    first == all && second == all
 }
 
 // Whether the first sets of a table, as many as the order, have all symbols. It goes on behind one that has not, as `all_symbols` does.
@@ -197,12 +169,8 @@ fn all_full(order: usize, table: &[u64; 64]) -> bool
 {
     let all = full(order);
     let mut good = true;
-    let mut a: usize = 0;
-    while a < order {
-        if table[a] != all {
-            good = false;
-        }
-        a += 1;
+    for a in 0..order {
+        good &= table[a] == all;
     }
     good
 }

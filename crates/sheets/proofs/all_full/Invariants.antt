@@ -1,14 +1,10 @@
 -- `all_full` meets its contract: `good` says whether all sets passed are full.
 use mathlib.Core.Path.{◌≡◌}
-use Prim.Native.Nat.{◌-◌, ◌^◌, ◌≤◌}
+use Prim.Native.Nat.{◌-◌, ◌^◌}
 use lib.Dec.{eqb}
 use lib.ListN.{get_or}
 use Rattle.sheets.specs.Counting.{all_below}
 use Rattle.sheets.proofs.all_full.Given as goal
 
 abbrev pub invariant-loop-a : goal.invariant-loop-a
-invariant-loop-a l =
-    (l.a ≤ l.order) × (l.all ≡ 2 ^ l.order - 1) × (l.good ≡ all_below l.a (λ i. eqb (get_or l.table i 0) (2 ^ l.order - 1)))
-
-abbrev pub decreases-loop-a : goal.decreases-loop-a
-decreases-loop-a l = l.order - l.a
+invariant-loop-a l = (l.all ≡ 2 ^ l.order - 1) × (l.good ≡ all_below l.a (λ i. eqb (get_or l.table i 0) (2 ^ l.order - 1)))

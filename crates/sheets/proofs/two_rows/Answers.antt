@@ -1,3 +1,4 @@
+-- `two_rows` meets its contract: a site's bytes are symbols, whose sets of one are added to the rows' sets and to the tables.
 use mathlib.Core.List.{List}
 use mathlib.Core.Path.{◌≡◌, refl, sym, ap, ◌∙◌}
 use Prim.Native.Nat.{ℕ, ◌+◌, ◌*◌, ◌/◌, ◌^◌, ◌<◌}
@@ -9,7 +10,7 @@ use Rattle.sheets.proofs.Reading.{met_next, row_full, put_two}
 use Rattle.sheets.proofs.two_rows.Goals as goal
 
 pub loop-col-init : goal.loop-col-init
-loop-col-init c = (omega arith, refl, refl, refl, refl, refl, refl, refl)
+loop-col-init c = (refl, refl, refl, refl, refl, refl, refl)
 
 -- The two sites of a turn.
 record Sites (N : ℕ) (bytes : List ℕ) (row next col : ℕ) : Type 0 where
@@ -43,55 +44,45 @@ loop-col-preserved c =
     λ k. ap (λ (s : ℕ). 2 ^ s) (sym (turn_other N bytes k a.row a.next col)) in
     let half : col ≡ 2 * col / 2 = omega arith in
     let half' : col ≡ (2 * col + 1) / 2 = omega arith in (
-      omega (arith, c.loop-col-test.true),
-      met_next (shown 2 N 0 bytes a.row) col inv.1 f1,
-      met_next (shown 2 N 1 bytes a.row) col inv.2 g1,
-      met_next (shown 2 N 0 bytes a.next) col inv.3 h1,
-      met_next (shown 2 N 1 bytes a.next) col inv.4 k1,
+      met_next (shown 2 N 0 bytes a.row) col inv.0 f1,
+      met_next (shown 2 N 1 bytes a.row) col inv.1 g1,
+      met_next (shown 2 N 0 bytes a.next) col inv.2 h1,
+      met_next (shown 2 N 1 bytes a.next) col inv.3 k1,
       c.put_two.ensures
-          ∙ put_two (λ j. j / 2) (turns 0) a.firsts.now col inv.5 half (f1 ∙ one 0) half' (h1 ∙ other 0),
+          ∙ put_two (λ j. j / 2) (turns 0) a.firsts.now col inv.4 half (f1 ∙ one 0) half' (h1 ∙ other 0),
       c.put_two-in-loop-col.ensures
-          ∙ put_two (λ j. j / 2) (turns 1) a.seconds.now col inv.6 half (g1 ∙ one 1) half' (k1 ∙ other 1),
+          ∙ put_two (λ j. j / 2) (turns 1) a.seconds.now col inv.5 half (g1 ∙ one 1) half' (k1 ∙ other 1),
       c.put_two-in-loop-col-2.ensures
-          ∙ put_two (turns 0) (turns 1) a.pairs.now col inv.7 (f ∙ sym (turn_one N bytes 0 a.row a.next col)) (g1 ∙ one 1)
+          ∙ put_two (turns 0) (turns 1) a.pairs.now col inv.6 (f ∙ sym (turn_one N bytes 0 a.row a.next col)) (g1 ∙ one 1)
           (h ∙ sym (turn_other N bytes 0 a.row a.next col)) (k1 ∙ other 1),
     )
 
 pub both_full-requires : goal.both_full-requires
 both_full-requires c = let in_range = c.requires.0 in (in_range.some, in_range.few)
 
-pub returns-then-not-both_full : goal.returns-then-not-both_full
-returns-then-not-both_full c =
-    let loop = c.loop-col in
-    let (in_range, row, _, _) = c.requires in
-    let all : loop.col ≡ c.args.order = omega (arith, c.loop-col-test.false) in
-    let fails = sym (row_full in_range c.args.row row all loop.invariant.1 loop.invariant.2) ∙ sym c.both_full.ensures
-    ∙ c.if-not-both_full.true in
-    record {
-      value = rw fails;
-      firsts_after = rw all at loop.invariant.5;
-      seconds_after = rw all at loop.invariant.6;
-      pairs_after = rw all at loop.invariant.7;
-    }
+pub both_full-requires-then-both_full : goal.both_full-requires-then-both_full
+both_full-requires-then-both_full c = let in_range = c.requires.0 in (in_range.some, in_range.few)
 
-pub both_full-requires-2 : goal.both_full-requires-2
-both_full-requires-2 c = let in_range = c.requires.0 in (in_range.some, in_range.few)
-
-pub returns : goal.returns
-returns c =
+-- both rows, and of the one that fails the other is not tried
+pub returns-then-both_full-clause-value : goal.returns-then-both_full-clause-value
+returns-then-both_full-clause-value c =
     let loop = c.loop-col in
     let (in_range, row, next, _) = c.requires in
-    let all : loop.col ≡ c.args.order = omega (arith, c.loop-col-test.false) in
-    let passes = sym (row_full in_range c.args.row row all loop.invariant.1 loop.invariant.2)
+    let all : loop.col ≡ c.args.order = omega arith in
+    let passes = sym (row_full in_range c.args.row row all loop.invariant.0 loop.invariant.1)
     ∙ sym c.both_full.ensures
-    ∙ c.if-not-both_full.false in
-    let second = c.both_full-2.ensures ∙ row_full in_range c.args.next next all loop.invariant.3 loop.invariant.4 in
-    record {
-      value = rw passes second;
-      firsts_after = rw all at loop.invariant.5;
-      seconds_after = rw all at loop.invariant.6;
-      pairs_after = rw all at loop.invariant.7;
-    }
+    ∙ c.if-both_full.true in
+    rw passes (c.both_full-then-both_full.ensures ∙ row_full in_range c.args.next next all loop.invariant.2 loop.invariant.3)
+
+pub returns-else-both_full-clause-value : goal.returns-else-both_full-clause-value
+returns-else-both_full-clause-value c =
+    let loop = c.loop-col in
+    let (in_range, row, _, _) = c.requires in
+    let all : loop.col ≡ c.args.order = omega arith in
+    let fails = sym (row_full in_range c.args.row row all loop.invariant.0 loop.invariant.1)
+    ∙ sym c.both_full.ensures
+    ∙ c.if-both_full.false in
+    c.if-both_full.false ∙ rw fails
 
 pub overflow_mul-start : goal.overflow_mul-start
 overflow_mul-start c = let (in_range, row, _, _) = c.requires in record { fits = omega (arith, readable in_range row in_range.some) }
@@ -175,9 +166,3 @@ put_two-requires-in-loop-col c = let sites = here c.requires.0 c.requires.1 c.re
 pub put_two-requires-in-loop-col-2 : goal.put_two-requires-in-loop-col-2
 put_two-requires-in-loop-col-2 c = let sites = here c.requires.0 c.requires.1 c.requires.2 c.loop-col-test.true in
     (omega arith, omega arith)
-
-pub overflow_add-col : goal.overflow_add-col
-overflow_add-col c = let sites = here c.requires.0 c.requires.1 c.requires.2 c.loop-col-test.true in record { fits = omega arith }
-
-pub loop-col-smaller : goal.loop-col-smaller
-loop-col-smaller c = omega (arith, here c.requires.0 c.requires.1 c.requires.2 c.loop-col-test.true)

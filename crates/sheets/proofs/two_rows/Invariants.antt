@@ -2,21 +2,17 @@
 -- pairs.
 use mathlib.Core.Bool.{true}
 use mathlib.Core.Path.{◌≡◌}
-use Prim.Native.Nat.{◌-◌, ◌*◌, ◌/◌, ◌≤◌}
+use Prim.Native.Nat.{◌*◌, ◌/◌}
 use Rattle.squares.specs.Sheets.{shown}
 use Rattle.sheets.specs.Inner.{met_below, pairs_put, by_turns}
 use Rattle.sheets.proofs.two_rows.Given as goal
 
 abbrev pub invariant-loop-col : goal.invariant-loop-col
 invariant-loop-col l =
-    (l.col ≤ l.order) × (l.first ≡ met_below l.col (λ i. true) (shown 2 l.order 0 l.sheet l.row))
+    (l.first ≡ met_below l.col (λ i. true) (shown 2 l.order 0 l.sheet l.row))
     × (l.second ≡ met_below l.col (λ i. true) (shown 2 l.order 1 l.sheet l.row))
     × (l.first_next ≡ met_below l.col (λ i. true) (shown 2 l.order 0 l.sheet l.next))
     × (l.second_next ≡ met_below l.col (λ i. true) (shown 2 l.order 1 l.sheet l.next))
     × (l.firsts ≡ pairs_put l.initial.firsts (2 * l.col) (λ j. j / 2) (by_turns l.order l.sheet 0 l.row l.next))
     × (l.seconds ≡ pairs_put l.initial.seconds (2 * l.col) (λ j. j / 2) (by_turns l.order l.sheet 1 l.row l.next))
     × (l.pairs ≡ pairs_put l.initial.pairs (2 * l.col) (by_turns l.order l.sheet 0 l.row l.next) (by_turns l.order l.sheet 1 l.row l.next))
-
-abbrev pub decreases-loop-col : goal.decreases-loop-col
-decreases-loop-col l =
-    l.order - l.col
