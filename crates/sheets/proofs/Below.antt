@@ -102,7 +102,8 @@ module _ (test : ℕ → Bool) where
   count_exists zero some = absurd (omega arith)
   count_exists (suc k) some = go (test k) refl (count_exists k)
     where
-      go : (b : Bool) → test k ≡ b → (1 ≤ count_below k test → (i : ℕ) × (i < k) × (test i ≡ true)) → (i : ℕ) × (i < suc k) × (test i ≡ true)
+      go : (b : Bool) → test k ≡ b → (1 ≤ count_below k test → (i : ℕ) × (i < k) × (test i ≡ true))
+          → (i : ℕ) × (i < suc k) × (test i ≡ true)
       go true t before = (k, omega arith, t)
       go false t before =
           let less : 1 ≤ count_below k test + 0 = rw t at some in

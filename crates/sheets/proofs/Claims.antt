@@ -130,7 +130,8 @@ behind_unread N bytes = go (dec_lt (length bytes) (sheet_size N))
           length-take-le (sheet_size N) bytes enough,
           le-ltb (length bytes) (sheet_size N) enough,
           le-ltb (sheet_size N) (sheet_size N) (le_refl (sheet_size N)),
-          all_same (λ i. ltb (get_or bytes i 0) N) (λ i. ltb (get_or sheet i 0) N) (sheet_size N) (λ i h. ap (λ (v : ℕ). ltb v N) (symbol i h)),
+          all_same (λ i. ltb (get_or bytes i 0) N) (λ i. ltb (get_or sheet i 0) N) (sheet_size N)
+              (λ i h. ap (λ (v : ℕ). ltb v N) (symbol i h)),
           same_truth (is_graeco_latin N (shown 2 N 0 bytes) (shown 2 N 1 bytes)) (is_graeco_latin N (shown 2 N 0 sheet) (shown 2 N 1 sheet))
               (together_same N (agree 0 zero_two) (agree 1 two)) (together_same N (back 0 zero_two) (back 1 two)),
         )

@@ -1,5 +1,5 @@
--- What the tests by counting mean: `is_latin` passes exactly the Latin squares, `is_orthogonal` the orthogonal ones, and what passes shows no
--- symbol but those below N.
+-- What the tests by counting mean: `is_latin` passes exactly the Latin squares, `is_orthogonal` the orthogonal ones, and what passes shows
+-- no symbol but those below N.
 use mathlib.Core.Bool.{Bool, true, ◌&&◌}
 use mathlib.Core.Logic.Iff
 use mathlib.Core.Logic.{◌↔◌}

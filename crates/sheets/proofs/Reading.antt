@@ -1,5 +1,5 @@
 -- What a sheet in range gives: the bytes of a site are there and are symbols below 64, so that they fit into sets of 64 bits. Then what one
--- turn of `two_rows` adds to its sets and tables.
+-- turn of `put_rows` adds to its sets and tables.
 use mathlib.Core.Bool.{true, ◌&&◌}
 use mathlib.Core.List.{List}
 use mathlib.Core.Path.{◌≡◌, refl, sym, ap, ap₂, ◌∙◌}

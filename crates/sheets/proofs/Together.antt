@@ -40,7 +40,8 @@ module _ (N : ℕ) (bytes : List ℕ) where
     pub row_fails : (row_permutes N bytes row && row_permutes N bytes next) ≡ false → all_below N (row_permutes N bytes) ≡ false
     row_fails e = go (row_permutes N bytes row) refl e
       where
-        go : (b : Bool) → row_permutes N bytes row ≡ b → (b && row_permutes N bytes next) ≡ false → all_below N (row_permutes N bytes) ≡ false
+        go : (b : Bool) → row_permutes N bytes row ≡ b → (b && row_permutes N bytes next) ≡ false
+            → all_below N (row_permutes N bytes) ≡ false
         go true t n = all_fails (row_permutes N bytes) N next next_lt n
         go false t n = all_fails (row_permutes N bytes) N row inside t
 
@@ -84,7 +85,8 @@ module _ (N : ℕ) (bytes : List ℕ) where
   -- the rows, the columns of both squares, the pairs
   pub in_turn : is_graeco_latin N (shown 2 N 0 bytes) (shown 2 N 1 bytes)
       ≡ (all_below N (row_permutes N bytes) && all_below N (λ col. is_permutation N (λ row. shown 2 N 0 bytes row col))
-      && all_below N (λ col. is_permutation N (λ row. shown 2 N 1 bytes row col)) && is_orthogonal N (shown 2 N 0 bytes) (shown 2 N 1 bytes))
+      && all_below N (λ col. is_permutation N (λ row. shown 2 N 1 bytes row col))
+      && is_orthogonal N (shown 2 N 0 bytes) (shown 2 N 1 bytes))
   in_turn =
       rearranged (all_below N (row 0)) (all_below N (row 1)) (column 0) (column 1) pairs
       ∙ ap (λ (r : Bool). r && column 0 && column 1 && pairs) (sym (all_both (row 0) (row 1) N))

@@ -43,35 +43,35 @@ fn all_symbols(order: u8, bytes: &[u8]) -> bool
     good
 }
 
-// Whether both squares are Latin and the two are orthogonal. The symbols met are kept as sets, a bit for each: N symbols below N are a
-// permutation where none is missing from their set, and N × N sites show each pair once where no pair is missing. A column has a set of
-// first and one of second symbols, and each first symbol a set of those that were met beside it. Of an odd order the last row is put
-// twice, which no set shows.
+// The symbols met, as sets with a bit for each: of each column those of the first square and those of the second, and those that the second
+// square has beside each symbol of the first.
+#[derive(Drop)]
+struct Met {
+    firsts: [u64; 64],
+    seconds: [u64; 64],
+    pairs: [u64; 64],
+}
+
+// Whether both squares are Latin and the two are orthogonal. N symbols below N are a permutation where none is missing from their set, and
+// N × N sites show each pair once where no pair is missing. Of an odd order the last row is put twice, which no set shows.
 fn graeco_latin(order: usize, sheet: &[u8]) -> bool
     requires { InRange order sheet.now }
     ensures { result ≡ is_graeco_latin order (shown 2 order 0 sheet.now) (shown 2 order 1 sheet.now) }
 {
     let single = singles(order);
-    let mut firsts = [0u64; 64];
-    let mut seconds = [0u64; 64];
-    let mut pairs = [0u64; 64];
+    let mut met = Met {
+        firsts: [0; 64],
+        seconds: [0; 64],
+        pairs: [0; 64],
+    };
     for two in 0..order.div_ceil(2) {
         let row = 2 * two;
         let next = (row + 1).min(order - 1);
-        if !two_rows(
-            order,
-            sheet,
-            row,
-            next,
-            &single,
-            &mut firsts,
-            &mut seconds,
-            &mut pairs,
-        ) {
+        if !met.put_rows(order, sheet, row, next, &single) {
             return false;
         }
     }
-    all_full(order, &firsts) && all_full(order, &seconds) && all_full(order, &pairs)
+    met.is_full(order)
 }
 
 // The sets of one symbol each: a load from memory takes less than a shift.
@@ -86,54 +86,65 @@ fn singles(order: usize) -> [u64; 64]
     one
 }
 
-// Whether two rows are permutations of the symbols, in both squares; and their symbols are put into the tables, whatever the answer. Two at
-// once: of a column both symbols go into the same set, which the compiler then reads and writes once.
-fn two_rows(
-    order: usize,
-    sheet: &[u8],
-    row: usize,
-    next: usize,
-    single: &[u64; 64],
-    firsts: &mut [u64; 64],
-    seconds: &mut [u64; 64],
-    pairs: &mut [u64; 64],
-) -> bool
-    requires { InRange order sheet.now × (row < order) × (next < order) × Singles order single.now }
-    ensures value { result ≡ (row_permutes order sheet.now row && row_permutes order sheet.now next) }
-    ensures firsts_after { firsts.new ≡ pairs_put firsts.old (2 * order) (λ j. j / 2)
-        (by_turns order sheet.now 0 row next) }
-    ensures seconds_after { seconds.new ≡ pairs_put seconds.old (2 * order) (λ j. j / 2)
-        (by_turns order sheet.now 1 row next) }
-    ensures pairs_after { pairs.new ≡ pairs_put pairs.old (2 * order) (by_turns order sheet.now 0 row next)
-        (by_turns order sheet.now 1 row next) }
-{
-    let start = row * order;
-    let start_next = next * order;
-    // The sets of the first and the second symbols of the one row, and of the next.
-    let mut first = 0;
-    let mut second = 0;
-    let mut first_next = 0;
-    let mut second_next = 0;
-    for col in 0..order {
-        let at = 2 * (start + col);
-        let at_next = 2 * (start_next + col);
-        let a = sheet[at] as usize;
-        let b = sheet[at + 1] as usize;
-        let c = sheet[at_next] as usize;
-        let d = sheet[at_next + 1] as usize;
-        let of_a = single[a];
-        let of_b = single[b];
-        let of_c = single[c];
-        let of_d = single[d];
-        first |= of_a;
-        second |= of_b;
-        first_next |= of_c;
-        second_next |= of_d;
-        put_two(firsts, col, of_a, col, of_c);
-        put_two(seconds, col, of_b, col, of_d);
-        put_two(pairs, a, of_b, c, of_d);
+impl Met {
+    // Whether two rows are permutations of the symbols, in both squares; and their symbols are put into the sets, whatever the answer. Two
+    // at once: of a column both symbols go into the same set, which the compiler then reads and writes once.
+    fn put_rows(
+        &mut self,
+        order: usize,
+        sheet: &[u8],
+        row: usize,
+        next: usize,
+        single: &[u64; 64],
+    ) -> bool
+        requires { InRange order sheet.now × (row < order) × (next < order) × Singles order single.now }
+        ensures value { result ≡ (row_permutes order sheet.now row && row_permutes order sheet.now next) }
+        ensures firsts { self.new.firsts ≡ pairs_put self.old.firsts (2 * order) (λ j. j / 2)
+            (by_turns order sheet.now 0 row next) }
+        ensures seconds { self.new.seconds ≡ pairs_put self.old.seconds (2 * order) (λ j. j / 2)
+            (by_turns order sheet.now 1 row next) }
+        ensures pairs { self.new.pairs ≡ pairs_put self.old.pairs (2 * order) (by_turns order sheet.now 0 row next)
+            (by_turns order sheet.now 1 row next) }
+    {
+        let start = row * order;
+        let start_next = next * order;
+        // The sets of the first and the second symbols of the one row, and of the next.
+        let mut first = 0;
+        let mut second = 0;
+        let mut first_next = 0;
+        let mut second_next = 0;
+        for col in 0..order {
+            let at = 2 * (start + col);
+            let at_next = 2 * (start_next + col);
+            let a = sheet[at] as usize;
+            let b = sheet[at + 1] as usize;
+            let c = sheet[at_next] as usize;
+            let d = sheet[at_next + 1] as usize;
+            let of_a = single[a];
+            let of_b = single[b];
+            let of_c = single[c];
+            let of_d = single[d];
+            first |= of_a;
+            second |= of_b;
+            first_next |= of_c;
+            second_next |= of_d;
+            put_two(&mut self.firsts, col, of_a, col, of_c);
+            put_two(&mut self.seconds, col, of_b, col, of_d);
+            put_two(&mut self.pairs, a, of_b, c, of_d);
+        }
+        both_full(order, first, second) && both_full(order, first_next, second_next)
     }
-    both_full(order, first, second) && both_full(order, first_next, second_next)
+
+    // Whether no symbol is missing from any set.
+    fn is_full(&self, order: usize) -> bool
+        requires { (1 ≤ order) × (order ≤ 64) }
+        ensures { result ≡ (all_full order self.now.firsts && all_full order self.now.seconds
+            && all_full order self.now.pairs) }
+    {
+        all_full(order, &self.firsts)
+            && all_full(order, &self.seconds)
+            && all_full(order, &self.pairs)
+    }
 }
 
 // Adds x to set number a of a table, then y to set number b.

@@ -64,7 +64,8 @@ module _ {n position half rest : ℕ} (s : Seeking n position half rest) where
       let more : 2 ^ n - half ≡ suc (2 ^ n - suc half) = omega (arith, below) in
       ap (λ (m : ℕ). each (numbers half m) (λ half. beginning_with n (from_half half))) more
 
-  pub found : rest < length (beginning_with n (from_half half)) → get_or (beginning_with n (from_half half)) rest none ≡ triple_at n position
+  pub found : rest < length (beginning_with n (from_half half))
+      → get_or (beginning_with n (from_half half)) rest none ≡ triple_at n position
   found = sought_first (beginning_with n (from_half half)) (from_half_lem n (suc half)) split s.sought
 
   pub passed : length (beginning_with n (from_half half)) ≤ rest

@@ -4,4 +4,4 @@ use Rattle.sheets.proofs.Together.{RowsPut}
 use Rattle.sheets.proofs.graeco_latin.Given as goal
 
 abbrev pub invariant-loop-two : goal.invariant-loop-two
-invariant-loop-two l = RowsPut l.order l.sheet l.firsts l.seconds l.pairs (2 * l.two)
+invariant-loop-two l = RowsPut l.order l.sheet l.met.firsts l.met.seconds l.met.pairs (2 * l.two)

@@ -1,3 +1,4 @@
+-- `member` meets its contract: a turn takes the least member out, and the one that is sought comes one place sooner.
 use Prim.Native.Nat.{ℕ, suc, ◌-◌, ◌^◌, ◌<◌}
 use native.Mathlib.Nat.{lt_of_le_of_lt}
 use native.Mathlib.Omega.{arith}

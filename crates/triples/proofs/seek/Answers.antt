@@ -1,3 +1,4 @@
+-- `seek` meets its contract: the numbers of the table are those of the triples that begin alike, which are passed over at once.
 use Prim.Native.Nat.{ℕ, ◌-◌, ◌<◌}
 use native.Mathlib.Numerals.{add-one}
 use native.Mathlib.Omega.{arith}

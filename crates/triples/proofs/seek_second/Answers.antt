@@ -1,3 +1,4 @@
+-- `seek_second` meets its contract: the members of both sets are the codes h of the triples that begin with f and g.
 use Prim.Native.Nat.{ℕ, ◌+◌, ◌-◌, ◌*◌, ◌%◌, ◌^◌, ◌≤◌, ◌<◌}
 use native.Mathlib.Omega.{arith}
 use mathlib.Core.Path.{◌≡◌, ap, ap₂, ◌∙◌}
@@ -49,7 +50,8 @@ module _ {n half place first left rest of_second : ℕ} (k : Kept n half place f
       ≡ get_or (beginning_with n (from_half half)) place none
   here = found k.finding _ is_both
 
-  further : ones (bit_and first of_second) ≤ rest → Kept n half place first (bit_and left (left - 1)) (rest - ones (bit_and first of_second))
+  further : ones (bit_and first of_second) ≤ rest
+      → Kept n half place first (bit_and left (left - 1)) (rest - ones (bit_and first of_second))
   further le = record { finding = passed k.finding _ is_both le; first_is = k.first_is }
 
 pub loop-rest-init : goal.loop-rest-init

@@ -16,7 +16,11 @@ all-requires c =
 
 pub returns-then-from-position : goal.returns-then-from-position
 unfolding triple_at_reply
-returns-then-from-position c = rw (sym c.outside_sheets.ensures ∙ c.if-outside_sheets.false, le-ltb _ _ (rw (c.from.ensures, c.all.ensures) at c.if-from-position.true))
+returns-then-from-position c =
+    rw (
+      sym c.outside_sheets.ensures ∙ c.if-outside_sheets.false,
+      le-ltb _ _ (rw (c.from.ensures, c.all.ensures) at c.if-from-position.true),
+    )
 
 pub seek-requires : goal.seek-requires
 seek-requires c =

@@ -1,4 +1,4 @@
--- `two_rows` meets its contract: a site's bytes are symbols, whose sets of one are added to the rows' sets and to the tables.
+-- `put_rows` meets its contract: a site's bytes are symbols, whose sets of one are added to the rows' sets and to the tables.
 use mathlib.Core.List.{List}
 use mathlib.Core.Path.{◌≡◌, refl, sym, ap, ◌∙◌}
 use Prim.Native.Nat.{ℕ, ◌+◌, ◌*◌, ◌/◌, ◌^◌, ◌<◌}
@@ -7,7 +7,7 @@ use Rattle.squares.specs.Sheets.{shown}
 use Rattle.sheets.specs.Inner.{InRange, by_turns}
 use Rattle.sheets.proofs.Reading.{Readable, readable, first_shown, second_shown, single, turn_one, turn_other}
 use Rattle.sheets.proofs.Reading.{met_next, row_full, put_two}
-use Rattle.sheets.proofs.two_rows.Goals as goal
+use Rattle.sheets.proofs.Met.put_rows.Goals as goal
 
 pub loop-col-init : goal.loop-col-init
 loop-col-init c = (refl, refl, refl, refl, refl, refl, refl)
@@ -49,11 +49,11 @@ loop-col-preserved c =
       met_next (shown 2 N 0 bytes a.next) col inv.2 h1,
       met_next (shown 2 N 1 bytes a.next) col inv.3 k1,
       c.put_two.ensures
-          ∙ put_two (λ j. j / 2) (turns 0) a.firsts.now col inv.4 half (f1 ∙ one 0) half' (h1 ∙ other 0),
+          ∙ put_two (λ j. j / 2) (turns 0) a.self.now.firsts col inv.4 half (f1 ∙ one 0) half' (h1 ∙ other 0),
       c.put_two-in-loop-col.ensures
-          ∙ put_two (λ j. j / 2) (turns 1) a.seconds.now col inv.5 half (g1 ∙ one 1) half' (k1 ∙ other 1),
+          ∙ put_two (λ j. j / 2) (turns 1) a.self.now.seconds col inv.5 half (g1 ∙ one 1) half' (k1 ∙ other 1),
       c.put_two-in-loop-col-2.ensures
-          ∙ put_two (turns 0) (turns 1) a.pairs.now col inv.6 (f ∙ sym (turn_one N bytes 0 a.row a.next col)) (g1 ∙ one 1)
+          ∙ put_two (turns 0) (turns 1) a.self.now.pairs col inv.6 (f ∙ sym (turn_one N bytes 0 a.row a.next col)) (g1 ∙ one 1)
           (h ∙ sym (turn_other N bytes 0 a.row a.next col)) (k1 ∙ other 1),
     )
 
