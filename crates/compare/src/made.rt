@@ -54,6 +54,7 @@ fn byte(order: u32, first: u32, second: u32, at: u32) -> u8 {
 
 fn filled(order: u32, first: u32, second: u32) -> Bytes {
     let mut bytes = [255u8; ROOM];
+    // By the index, which the byte is made of, and whose bound shows that it fits 32 bits.
     for at in 0..ROOM {
         bytes[at] = byte(order, first, second, at as u32);
     }
@@ -117,6 +118,7 @@ fn places_sum(sum: &mut Sum, order: u32, bytes: &Bytes, size: usize) {
 // The sheet with two runs of bytes exchanged.
 fn exchanged(bytes: &Bytes, one: u32, other: u32, run: u32) -> Bytes {
     let mut sheet = *bytes;
+    // By their indices, since the runs may reach past the end, and only what is there is exchanged.
     for k in 0..run as usize {
         let p = one as usize + k;
         let q = other as usize + k;

@@ -8,6 +8,7 @@ use std::fmt::Display;
 use std::io;
 use walk::Walk;
 
+// This and the next two print inside a line what the program edges prints at the end of one.
 fn numbers<T: Display>(rt: &impl Print, list: &[T]) -> io::Result<()> {
     for number in list {
         print!(rt; " {number}")?;
@@ -84,6 +85,7 @@ fn open(rt: &impl Print, file: &[u8]) -> io::Result<()> {
     print!(rt; " name:")?;
     numbers(rt, opened.name)?;
     print!(rt; " levels:")?;
+    // By their index, since three slices are printed in turn.
     for i in 0..9usize {
         print!(rt; " {} {} {}", powers[i], forces[i], times[i])?;
     }

@@ -54,6 +54,7 @@ fn add_lines(from: u64, codes: &[u32], out: &mut [u8], used: usize) -> Filling
 {
     let many = codes.len() / 2;
     let mut end = used;
+    // By the index, which makes the position. f and g stand in turn, as the C interface lends them.
     for i in 0..many {
         let pair = Pair {
             f: codes[2 * i],

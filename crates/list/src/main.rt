@@ -6,7 +6,8 @@ ghost use Rattle.std.specs.Prelude.{◌≤◌, length, IfOk};
 use std::io;
 use std::io::Read;
 
-// Reads until the slice is full or the input ends, and gives how many bytes it put at the slice's front.
+// Reads until the slice is full or the input ends, and gives how many bytes it put at the slice's front. A loop of its own, since std's
+// `read_exact` takes an input that ends early for an error, and `read_to_end` needs memory of the heap.
 fn read_full<R: Read>(input: &mut R, bytes: &mut [u8]) -> io::Result<usize>
     ensures { IfOk result (λ n. n ≤ length bytes.new) }
 {
