@@ -18,61 +18,55 @@ pub struct Filling {
 pub fn fill_lines(n: u32, position: u64, out: &mut [u8]) -> Filling
     ensures { Fills n position out.old result.used result.next out.new }
 {
-    let mut used: usize = 0;
-    let mut next = position;
+    let mut filling = Filling {
+        used: 0,
+        next: position,
+    };
     loop {
-        let block = add_block(n, next, out, used);
+        let block = add_block(n, filling, out);
         // Fewer lines than positions: the list or the room is at its end.
-        if block.next - next < 256 {
+        if block.next - filling.next < 256 {
             return block;
         }
-        used = block.used;
-        next = block.next;
+        filling = block;
     }
 }
 
-// The same behind the `used` bytes, for at most 256 positions.
-fn add_block(n: u32, position: u64, out: &mut [u8], used: usize) -> Filling
-    requires { used ≤ length out.old }
-    ensures { Adds (block_lines n position) position out.old used result.used result.next out.new }
+// The same behind what is filled already, for at most 256 positions.
+fn add_block(n: u32, before: Filling, out: &mut [u8]) -> Filling
+    requires { before.used ≤ length out.old }
+    ensures { Adds (block_lines n before.next) before.next out.old before.used result.used result.next out.new }
 {
     let mut codes = [0u32; 512];
-    match listing::pairs_from(n, position, &mut codes) {
-        Ok(many) => add_lines(position, &codes[..2 * many], out, used),
-        Err(_) => Filling {
-            used,
-            next: position,
-        },
+    match listing::pairs_from(n, before.next, &mut codes) {
+        Ok(many) => add_lines(before, &codes[..2 * many], out),
+        Err(_) => before,
     }
 }
 
-// The same from the codes of the pairs from a position on. Where `pairs_from` gave them, each line is that of its pair's own position (the
-// law `block_lines_lem`).
-fn add_lines(from: u64, codes: &[u32], out: &mut [u8], used: usize) -> Filling
-    requires { (from < 2 ^ 63) × (length codes.now ≤ 512) × (used ≤ length out.old) }
-    ensures { Adds (lines_from from (length codes.now / 2) codes.now) from out.old used result.used result.next out.new }
+// The same from the codes of the pairs there. Where `pairs_from` gave them, each line is that of its pair's own position (the law
+// `block_lines_lem`).
+fn add_lines(before: Filling, codes: &[u32], out: &mut [u8]) -> Filling
+    requires { (before.next < 2 ^ 63) × (length codes.now ≤ 512) × (before.used ≤ length out.old) }
+    ensures { Adds (lines_from before.next (length codes.now / 2) codes.now) before.next out.old before.used result.used result.next out.new }
 {
-    let many = codes.len() / 2;
-    let mut end = used;
-    // By the index, which makes the position. f and g stand in turn, as the C interface lends them.
-    for i in 0..many {
+    let mut filling = before;
+    // By the index, since f and g stand in turn, as the C interface lends them.
+    for i in 0..codes.len() / 2 {
         let pair = Pair {
             f: codes[2 * i],
             g: codes[2 * i + 1],
         };
-        let next = add_line(from + i as u64, pair, out, end);
-        if next == end {
-            return Filling {
-                used: end,
-                next: from + i as u64,
-            };
+        let used = add_line(filling.next, pair, out, filling.used);
+        if used == filling.used {
+            return filling;
         }
-        end = next;
+        filling = Filling {
+            used,
+            next: filling.next + 1,
+        };
     }
-    Filling {
-        used: end,
-        next: from + many as u64,
-    }
+    filling
 }
 
 // The line of a pair behind the `used` bytes, where it fits. With room for any line it is made in its place, else apart.

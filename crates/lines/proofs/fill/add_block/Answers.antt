@@ -34,27 +34,27 @@ none n position e = adds_none (rw (no_block n position e))
 
 pub overflow_mul-codes : goal.overflow_mul-codes
 overflow_mul-codes c =
-    let few = (small c.args.n c.args.position _ c.in-Ok.ensures.reply).1 in
+    let few = (small c.args.n c.args.before.next _ c.in-Ok.ensures.reply).1 in
     record { fits = omega (arith, few) }
 
 pub slice_bounds-codes-end : goal.slice_bounds-codes-end
 slice_bounds-codes-end c =
-    let few = (small c.args.n c.args.position _ c.in-Ok.ensures.reply).1 in
+    let few = (small c.args.n c.args.before.next _ c.in-Ok.ensures.reply).1 in
     omega (arith, few)
 
 pub slice_bounds-add_lines-end : goal.slice_bounds-add_lines-end
 slice_bounds-add_lines-end c =
-    let few = (small c.args.n c.args.position _ c.in-Ok.ensures.reply).1 in
+    let few = (small c.args.n c.args.before.next _ c.in-Ok.ensures.reply).1 in
     omega (arith, few, length-take (2 * c.in-Ok.many) c.pairs_from.new.out)
 
 pub add_lines-requires : goal.add_lines-requires
 add_lines-requires c =
-    let (low, few) = small c.args.n c.args.position _ c.in-Ok.ensures.reply in
+    let (low, few) = small c.args.n c.args.before.next _ c.in-Ok.ensures.reply in
     (low, omega (arith, few, length-take (2 * c.in-Ok.many) c.pairs_from.new.out), c.requires)
 
 pub returns-in-Err : goal.returns-in-Err
-returns-in-Err c = none c.args.n c.args.position c.in-Err.ensures.reply
+returns-in-Err c = none c.args.n c.args.before.next c.in-Err.ensures.reply
 
 pub returns-in-Ok : goal.returns-in-Ok
 returns-in-Ok c =
-    whole c.args.n c.args.position _ c.in-Ok.ensures.reply c.in-Ok.ensures.content (omega arith) c.add_lines.ensures
+    whole c.args.n c.args.before.next _ c.in-Ok.ensures.reply c.in-Ok.ensures.content (omega arith) c.add_lines.ensures

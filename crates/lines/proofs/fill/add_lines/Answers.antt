@@ -34,37 +34,39 @@ module _ (from many : ℕ) (codes : List ℕ) {out₀ : List ℕ} {used i end : 
       stops = rw same at (begun_last 1 b nothing (omega arith))
 
   -- There is none.
-  ends : i ≡ many → Adds (lines_from from many codes) from out₀ used end (from + many) out
+  ends : i ≡ many → Adds (lines_from from many codes) from out₀ used end (from + i) out
   ends e =
       let none : drop i (lines_from from many codes) ≡ [] = rw e (no_more from many codes) in
-      let all = b.rest end (from + i) out (adds_none (rw none)) in
-      rw e at all
+      b.rest end (from + i) out (adds_none (rw none))
 
 pub loop-i-init : goal.loop-i-init
-loop-i-init c = begun c.requires.2
+loop-i-init c = (begun c.requires.2, omega arith)
 
-pub add_line-next-requires : goal.add_line-next-requires
-add_line-next-requires c = c.loop-i.invariant.room
+pub add_line-used-requires : goal.add_line-used-requires
+add_line-used-requires c = c.loop-i.invariant.0.room
 
-pub shape_of-out-then-next-end : goal.shape_of-out-then-next-end
-shape_of-out-then-next-end c =
-    let a = c.args in
-    kept a.from _ a.codes.now c.loop-i.invariant c.loop-i-test.true c.add_line-next.ensures c.if-next-end.true
+pub shape_of-out-then-used-filling : goal.shape_of-out-then-used-filling
+shape_of-out-then-used-filling c =
+    let (begun, next) = c.loop-i.invariant in
+    kept c.args.before.next _ c.args.codes.now begun c.loop-i-test.true (rw next at c.add_line-used.ensures) c.if-used-filling.true
 
-pub returns-then-next-end : goal.returns-then-next-end
-returns-then-next-end c =
-    let a = c.args in
-    stops a.from _ a.codes.now c.loop-i.invariant c.loop-i-test.true c.add_line-next.ensures c.if-next-end.true
+pub returns-then-used-filling : goal.returns-then-used-filling
+returns-then-used-filling c =
+    let (begun, next) = c.loop-i.invariant in
+    rw next
+    (stops c.args.before.next _ c.args.codes.now begun c.loop-i-test.true (rw next at c.add_line-used.ensures) c.if-used-filling.true)
 
 pub loop-i-preserved : goal.loop-i-preserved
 loop-i-preserved c =
-    let a = c.args in
-    goes_on a.from _ a.codes.now c.loop-i.invariant c.loop-i-test.true c.add_line-next.ensures c.if-next-end.false
+    let (begun, next) = c.loop-i.invariant in (
+      goes_on c.args.before.next _ c.args.codes.now begun c.loop-i-test.true (rw next at c.add_line-used.ensures) c.if-used-filling.false,
+      omega arith,
+    )
 
 pub shape_of-out : goal.shape_of-out
-shape_of-out c = c.loop-i.invariant.kept
+shape_of-out c = c.loop-i.invariant.0.kept
 
 pub returns : goal.returns
 returns c =
-    let a = c.args in
-    ends a.from _ a.codes.now c.loop-i.invariant (omega arith)
+    let (begun, next) = c.loop-i.invariant in
+    rw next (ends c.args.before.next _ c.args.codes.now begun (omega arith))

@@ -43,36 +43,36 @@ module _ (n position : ℕ) {out₀ : List ℕ} {next : ℕ} {out : List ℕ} {u
         stop = rw sub-zero at all.stop;
       }
 
-pub loop-next-init : goal.loop-next-init
-loop-next-init c =
+pub loop-filling-init : goal.loop-filling-init
+loop-filling-init c =
     let position = c.args.position in
     (omega arith, rw sub_self (begun {lines = drop position (entry_lines c.args.n)} (omega arith)))
 
 pub add_block-block-requires : goal.add_block-block-requires
-add_block-block-requires c = c.loop-next.invariant.1.room
+add_block-block-requires c = c.loop-filling.invariant.1.room
 
 pub overflow_sub-block : goal.overflow_sub-block
 overflow_sub-block c = omega (arith, c.add_block-block.ensures.stop)
 
-pub shape_of-out-then-block-next-lt256 : goal.shape_of-out-then-block-next-lt256
-shape_of-out-then-block-next-lt256 c =
+pub shape_of-out-then-block-filling-lt256 : goal.shape_of-out-then-block-filling-lt256
+shape_of-out-then-block-filling-lt256 c =
     let a = c.args in
-    (more a.n a.position c.loop-next.invariant.0 c.loop-next.invariant.1 c.add_block-block.ensures).kept
+    (more a.n a.position c.loop-filling.invariant.0 c.loop-filling.invariant.1 c.add_block-block.ensures).kept
 
-pub returns-then-block-next-lt256 : goal.returns-then-block-next-lt256
-returns-then-block-next-lt256 c =
+pub returns-then-block-filling-lt256 : goal.returns-then-block-filling-lt256
+returns-then-block-filling-lt256 c =
     let a = c.args in
-    last a.n a.position c.loop-next.invariant.0 c.loop-next.invariant.1 c.add_block-block.ensures c.if-block-next-lt256.true
+    last a.n a.position c.loop-filling.invariant.0 c.loop-filling.invariant.1 c.add_block-block.ensures c.if-block-filling-lt256.true
 
-pub loop-next-smaller : goal.loop-next-smaller
-loop-next-smaller c =
+pub loop-filling-smaller : goal.loop-filling-smaller
+loop-filling-smaller c =
     let a = c.args in
-    less a.n a.position c.loop-next.invariant.0 c.loop-next.invariant.1 c.add_block-block.ensures c.if-block-next-lt256.false
+    less a.n a.position c.loop-filling.invariant.0 c.loop-filling.invariant.1 c.add_block-block.ensures c.if-block-filling-lt256.false
 
-pub loop-next-preserved : goal.loop-next-preserved
-loop-next-preserved c =
+pub loop-filling-preserved : goal.loop-filling-preserved
+loop-filling-preserved c =
     let a = c.args in
     let b = c.add_block-block.ensures in (
-      omega (arith, onward a.n a.position c.loop-next.invariant.0 c.loop-next.invariant.1 b),
-      more a.n a.position c.loop-next.invariant.0 c.loop-next.invariant.1 b,
+      omega (arith, onward a.n a.position c.loop-filling.invariant.0 c.loop-filling.invariant.1 b),
+      more a.n a.position c.loop-filling.invariant.0 c.loop-filling.invariant.1 b,
     )
