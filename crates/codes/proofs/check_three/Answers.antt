@@ -52,9 +52,6 @@ module _ (n f g h : ℕ) (inside : outside 2 6 n ≡ false) where
           let (low, high) = within 2 6 inside in
           record { low = omega arith; high = high; degree_is = degree; constant = odd }
 
-pub returns-then-outside_sheets : goal.returns-then-outside_sheets
-returns-then-outside_sheets c = rw (sym c.outside_sheets.ensures ∙ c.if-outside_sheets.true)
-
 pub returns-in_err-check_pair : goal.returns-in_err-check_pair
 returns-in_err-check_pair c =
     let a = c.args in

@@ -13,9 +13,6 @@ use Rattle.codes.proofs.coprime.Goals as goal
 least_is : {n code : ℕ} → InTable n code → 1 * 2 ^ (n - 1) % 2 ^ 32 ≡ least n
 least_is {n} stands = one_shl 32 (n - 1) (omega (arith, stands.high))
 
-pub overflow_sub-result : goal.overflow_sub-result
-overflow_sub-result c = let g-stands = c.requires.1 in omega (arith, least_is g-stands, (half_of g-stands).from)
-
 pub overflow_shr-result : goal.overflow_shr-result
 overflow_shr-result c = let g-stands = c.requires.1 in omega (arith, least_is g-stands, index_lt g-stands, few (half_of g-stands))
 

@@ -1,10 +1,9 @@
 use mathlib.Core.List.{List}
-use mathlib.Core.Path.{refl, sym, ap, ◌∙◌}
+use mathlib.Core.Path.{sym, ap, ◌∙◌}
 use Prim.Native.Nat.{ℕ, ◌+◌, ◌<◌}
-use native.Mathlib.Nat.{zero-add, add-zero}
+use native.Mathlib.Nat.{add-zero}
 use native.Mathlib.Numerals.{add-one}
 use native.Mathlib.Omega.{arith}
-use borrow.Author.Rules.{rules}
 use lib.ListN.{length, set, length-set}
 use Rattle.euclid.specs.Chain.{Chain, chain}
 use Rattle.euclid.proofs.Chains.{link, chain_zero}
@@ -35,14 +34,8 @@ module _ (c : goal.After-divide-d) where
   room : c.loop-divisor.count < length c.loop-divisor.out
   room = omega (arith, here.size, here.counted, c.requires)
 
-pub loop-divisor-init : goal.loop-divisor-init
-loop-divisor-init c = record { written = refl; counted = zero-add _; divisor = refl; size = refl }
-
 pub bounds-out-count : goal.bounds-out-count
 bounds-out-count c = room c
-
-pub overflow_add-count : goal.overflow_add-count
-overflow_add-count c = let l = room c in search rules
 
 pub loop-divisor-smaller : goal.loop-divisor-smaller
 loop-divisor-smaller c =
@@ -51,9 +44,6 @@ loop-divisor-smaller c =
 
 pub loop-divisor-preserved : goal.loop-divisor-preserved
 loop-divisor-preserved c = turn c.divide-d.result.quotient (here c)
-
-pub shape_of-out : goal.shape_of-out
-shape_of-out c = c.loop-divisor.invariant.size
 
 pub returns : goal.returns
 returns c =

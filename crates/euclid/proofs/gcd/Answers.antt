@@ -1,10 +1,7 @@
-use mathlib.Core.Path.{refl, sym, ap, ◌∙◌}
+use mathlib.Core.Path.{sym, ap, ◌∙◌}
 use Rattle.poly.specs.Coprime.{gcd}
 use Rattle.euclid.proofs.Steps.{divided_gcd, divided_less}
 use Rattle.euclid.proofs.gcd.Goals as goal
-
-pub loop-b-init : goal.loop-b-init
-loop-b-init c = refl
 
 pub loop-b-smaller : goal.loop-b-smaller
 loop-b-smaller c =

@@ -50,12 +50,6 @@ module _ (n f g : ℕ) (out : List ℕ) where
             sets-eq qs out 0 (omega arith) ∙ rw zero-add (sym (ap (λ (r : Reply). after r (qs ++ drop (length qs) out) out) e)),
           )
 
-pub returns-then-outside : goal.returns-then-outside
-returns-then-outside c =
-    let a = c.args in
-    let r = refuses a.n a.f a.g a.out.now {k = 1} (rw (sym c.outside.ensures ∙ c.if-outside.true)) in
-    record { reply = r.0; content = r.1 }
-
 pub returns-in_err-check_pair : goal.returns-in_err-check_pair
 returns-in_err-check_pair c =
     let a = c.args in

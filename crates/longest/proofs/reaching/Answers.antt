@@ -2,16 +2,12 @@
 use mathlib.Core.Path.{◌≡◌}
 use Prim.Native.Nat.{◌*◌, ◌%◌, ◌^◌}
 use native.Mathlib.Omega.{arith}
-use lib.Pow.{pow_mono}
 use Rattle.poly.proofs.Shifts.{one_shl}
 use Rattle.pairs.proofs.Words.{words_closed}
 use Rattle.longest.proofs.reaching.Goals as goal
 
 shifted : (c : goal.Start) → 1 * 2 ^ c.args.n % 2 ^ 64 ≡ 2 ^ c.args.n
 shifted c = let few = c.requires in one_shl 64 c.args.n (omega arith)
-
-pub overflow_add-result : goal.overflow_add-result
-overflow_add-result c = record { fits = rw (shifted c) (omega (arith, pow_mono {i = c.args.n} {j = 31} c.requires)) }
 
 pub overflow_sub-result : goal.overflow_sub-result
 overflow_sub-result c = rw (shifted c) (omega (arith, words_closed c.args.n))

@@ -18,9 +18,6 @@ loop-rest-init c =
 in_table : {n position half rest : ℕ} → Seeking n position half rest → half < 64
 in_table s = half_lt (code s)
 
-pub offset_bounds-sizes-half : goal.offset_bounds-sizes-half
-offset_bounds-sizes-half c = record { fits = omega (arith, in_table c.loop-rest.invariant) }
-
 pub bounds-sizes-half : goal.bounds-sizes-half
 bounds-sizes-half c = in_table c.loop-rest.invariant
 
@@ -41,9 +38,6 @@ unfolding counts
 returns-then-rest-size c =
     let s = c.loop-rest.invariant in
     c.seek_second.ensures ∙ found s (rw (c.from-size.ensures, count_at (code s)) at c.if-rest-size.true)
-
-pub overflow_add-half : goal.overflow_add-half
-overflow_add-half c = record { fits = omega (arith, in_table c.loop-rest.invariant) }
 
 pub loop-rest-smaller : goal.loop-rest-smaller
 loop-rest-smaller c = omega (arith, in_table c.loop-rest.invariant)

@@ -11,7 +11,7 @@ use Rattle.codes.specs.Codes.{from_half, coprimes_of}
 use Rattle.codes.proofs.Halves.{least, code_at, Half, half_lt}
 use Rattle.triples.specs.Triples.{none, beginning_with}
 use Rattle.triples.proofs.Beginnings.{common}
-use Rattle.triples.proofs.Finding.{found_first, some, second, in_both, third, found, passed}
+use Rattle.triples.proofs.Finding.{found_first, some, in_both, third, found, passed}
 use Rattle.triples.proofs.seek_second.Invariants.{Kept}
 use Rattle.triples.proofs.seek_second.Goals as goal
 
@@ -64,11 +64,6 @@ loop-rest-init c =
       first_is = c.coprimes-first.ensures;
     }
 
-pub overflow_add-second : goal.overflow_add-second
-overflow_add-second c =
-    let s = c.loop-rest.invariant.finding in
-    record { fits = rw (shift s.code) (omega (arith, half_lt (second s))) }
-
 pub member-requires : goal.member-requires
 member-requires c = inside c.loop-rest.invariant c.coprimes-of_second.ensures c.if-rest-size.true
 
@@ -76,22 +71,6 @@ pub overflow_add-third : goal.overflow_add-third
 overflow_add-third c =
     let code = last_half c.loop-rest.invariant c.coprimes-of_second.ensures c.if-rest-size.true c.member.ensures in
     record { fits = omega (arith, half_lt code) }
-
-pub overflow_mul-result : goal.overflow_mul-result
-overflow_mul-result c = record { fits = double_fits c.loop-rest.invariant.finding.code }
-
-pub overflow_add-result : goal.overflow_add-result
-overflow_add-result c = record { fits = odd_fits c.loop-rest.invariant.finding.code }
-
-pub overflow_mul-result-then-rest-size : goal.overflow_mul-result-then-rest-size
-overflow_mul-result-then-rest-size c =
-    let s = c.loop-rest.invariant.finding in
-    record { fits = rw (shift s.code) (double_fits (second s)) }
-
-pub overflow_add-result-then-rest-size : goal.overflow_add-result-then-rest-size
-overflow_add-result-then-rest-size c =
-    let s = c.loop-rest.invariant.finding in
-    record { fits = rw (shift s.code) (odd_fits (second s)) }
 
 pub overflow_mul-result-then-rest-size-2 : goal.overflow_mul-result-then-rest-size-2
 overflow_mul-result-then-rest-size-2 c =

@@ -43,10 +43,5 @@ returns-then-length-entry c =
     let a = c.args in
     bad-entry a.n a.entry _ c.in_ok-length.ensures c.if-length-entry.true
 
-pub overflow_mul-position : goal.overflow_mul-position
-overflow_mul-position c =
-    let a = c.args in
-    record { fits = fits a.n a.entry _ c.in_ok-length.ensures c.if-length-entry.false }
-
 pub returns : goal.returns
 returns c = c.pair_at.ensures ∙ sym (doubled c.args.n c.args.entry)

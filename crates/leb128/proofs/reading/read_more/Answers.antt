@@ -3,27 +3,14 @@ use mathlib.Core.Path.{◌≡◌, refl, sym, ◌∙◌}
 use Prim.Native.Nat.{ℕ, ◌+◌, ◌-◌, ◌*◌, ◌%◌, ◌≤◌, ◌<◌}
 use native.Mathlib.Nat.{mul-le-mul_left}
 use native.Mathlib.Decide.{dec_lt, ℕ_discrete}
-use lib.Dec.{lit≤, lit<}
+use lib.Dec.{lit<}
 use native.Mathlib.Omega.{arith}
 use mathlib.Core.List.{List}
 use lib.ListN.{length, get_or, drop}
 use Rattle.leb128.specs.Parser.{failed}
-use Rattle.leb128.specs.Number.{parse_groups}
 use Rattle.leb128.specs.Inner.{parse_more}
-use Rattle.leb128.proofs.Groups.{SoFar, above_onto, unit_fits, group_fits, ends, needless, too_high, total, turn, unit_last, long}
+use Rattle.leb128.proofs.Groups.{SoFar, unit_fits, group_fits, ends, needless, too_high, total, turn, unit_last, long}
 use Rattle.leb128.proofs.reading.read_more.Goals as goal
-
-pub loop-next-init : goal.loop-next-init
-loop-next-init c =
-    let a = c.args in
-    let eight : a.at + 8 - a.at ≡ 8 = omega arith in
-    rw eight
-    (record {
-      few = lit≤ tt;
-      small = c.requires.0;
-      scale = refl;
-      same = above_onto a.low (parse_groups 9 (drop a.at a.file.now));
-    })
 
 -- In a turn: the next unit is not too large, and a group more stays below it.
 turn_fits : {file : List ℕ} {at low value unit next left : ℕ} → SoFar file at low value unit next left → 0 < left

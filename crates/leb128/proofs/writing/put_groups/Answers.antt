@@ -1,10 +1,9 @@
-use mathlib.Core.Path.{refl}
 use mathlib.Core.List.{[], ◌∷◌}
 use Prim.Native.Nat.{◌+◌, ◌/◌, ◌%◌}
 use native.Mathlib.Omega.{arith}
 use Rattle.leb128.specs.Number.{encode_number}
 use Rattle.leb128.proofs.Number.{encode_small, encode_step}
-use Rattle.leb128.proofs.Putting.{Putting, none_put, byte_put, all_put, room_left}
+use Rattle.leb128.proofs.Putting.{Putting, byte_put, all_put, room_left}
 use Rattle.leb128.proofs.writing.put_groups.Goals as goal
 
 -- In a turn the lowest group comes next; after the loop the last.
@@ -20,38 +19,14 @@ last_one : (c : goal.After-loop-left) →
     Putting a.out.now s.out a.at s.next (encode_number a.value) (s.left ∷ [])
 last_one c = rw (encode_small c.loop-left.left c.loop-left-test.false) at c.loop-left.invariant
 
-pub loop-left-init : goal.loop-left-init
-loop-left-init c = none_put c.args.out.now c.args.at refl
-
-pub overflow_add-out : goal.overflow_add-out
-overflow_add-out c = omega arith
-
-pub overflow_cast-out : goal.overflow_cast-out
-overflow_cast-out c = omega arith
-
 pub bounds-out-next : goal.bounds-out-next
 bounds-out-next c = omega (arith, room_left (one_more c) c.requires)
-
-pub overflow_add-next : goal.overflow_add-next
-overflow_add-next c = omega (arith, room_left (one_more c) c.requires)
-
-pub loop-left-smaller : goal.loop-left-smaller
-loop-left-smaller c = omega arith
 
 pub loop-left-preserved : goal.loop-left-preserved
 loop-left-preserved c = byte_put (one_more c)
 
-pub overflow_cast-out-2 : goal.overflow_cast-out-2
-overflow_cast-out-2 c = omega arith
-
 pub bounds-out-next-2 : goal.bounds-out-next-2
 bounds-out-next-2 c = omega (arith, room_left (last_one c) c.requires)
-
-pub overflow_add-result : goal.overflow_add-result
-overflow_add-result c = omega (arith, room_left (last_one c) c.requires)
-
-pub shape_of-out : goal.shape_of-out
-shape_of-out c = (byte_put (last_one c)).kept
 
 pub returns : goal.returns
 returns c = all_put (byte_put (last_one c))
