@@ -47,6 +47,7 @@ fn coprime(n: u32, f: u32, g: u32) -> bool
 
 // The set of the odd codes of its degree that are coprime to 2·half + 1: bit k tells of the one at index k, counted from 0. 0 outside the
 // table. The cases compile to one load, where a constant array would be laid on the stack at each reading.
+#[tactic(auto, using(crate::proofs::Table::told), unfolding(crate::proofs::Rows::rows))]
 pub fn coprimes(half: u32) -> u32
     ensures { result ≡ coprimes_of half }
 {
