@@ -33,7 +33,8 @@ pub fn quotients(n: u32, f: u32, g: u32, out: &mut [u32]) -> Result<Chain, Refus
     Ok(divisions(f, g, out))
 }
 
-// Writes the quotients of f and g to the front of out, each as it is found; it refuses nothing. The divisor falls with each division.
+// Writes the quotients of f and g to the front of out, each as it is found; it refuses nothing. The divisor falls with each division, and
+// the loop ends with it: the count is what it finds, and no range of it.
 fn divisions(f: u32, g: u32, out: &mut [u32]) -> Chain
     requires { length (chain 2 f g).quotients ≤ length out.old }
     ensures counted { result.count ≡ length (chain 2 f g).quotients }
@@ -57,7 +58,7 @@ fn divisions(f: u32, g: u32, out: &mut [u32]) -> Chain
     }
 }
 
-// The greatest common divisor.
+// The greatest common divisor. The loop is not that of the chain, since no quotient is wanted and no place for one is lent.
 pub fn gcd(f: u32, g: u32) -> u32
     ensures { result ≡ gcd 2 f g }
 {

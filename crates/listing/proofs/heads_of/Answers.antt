@@ -12,20 +12,8 @@ first : (b : Block) (i : ℕ) → i < b.compositions * 2 ^ (b.n - b.k)
     → Between b.n b.k i (replicate 32 0) (i / 2 ^ (b.n - b.k)) b.compositions (b.n - 1) (b.k - 1) 1
 first b i h = begins b.n b.k b.compositions i (replicate 32 0) b.le_k b.k_le_n b.n_bound b.compositions_value h refl
 
-pub overflow_sub-index : goal.overflow_sub-index
-overflow_sub-index c = omega arith
-
-pub overflow_cast-index : goal.overflow_cast-index
-overflow_cast-index c = omega arith
-
-pub overflow_shr-index : goal.overflow_shr-index
-overflow_shr-index c = omega arith
-
 pub overflow_cast-index-2 : goal.overflow_cast-index-2
 overflow_cast-index-2 c = record { fits = omega (arith, (first c.args.block c.args.group c.requires).choices.inside, c.args.block.compositions_value) }
-
-pub overflow_sub-commas : goal.overflow_sub-commas
-overflow_sub-commas c = omega arith
 
 pub loop-gaps-init : goal.loop-gaps-init
 loop-gaps-init c = first c.args.block c.args.group c.requires
@@ -52,9 +40,6 @@ pub overflow_sub-commas-then-index-with_comma : goal.overflow_sub-commas-then-in
 overflow_sub-commas-then-index-with_comma c = comma_left _ _ c.loop-gaps.invariant.choices c.loop-gaps-test.true
     (rw (shared c.loop-gaps.invariant c.loop-gaps-test.true c.share-with_comma.ensures) at c.if-index-with_comma.true)
 
-pub loop-gaps-smaller-then-index-with_comma : goal.loop-gaps-smaller-then-index-with_comma
-loop-gaps-smaller-then-index-with_comma c = omega (arith, c.loop-gaps-test.true)
-
 pub loop-gaps-preserved-then-index-with_comma : goal.loop-gaps-preserved-then-index-with_comma
 loop-gaps-preserved-then-index-with_comma c =
     rw (shared c.loop-gaps.invariant c.loop-gaps-test.true c.share-with_comma.ensures)
@@ -71,9 +56,6 @@ overflow_cast-head c = let b = c.loop-gaps.invariant in record { fits = omega (a
 pub overflow_shr-head : goal.overflow_shr-head
 overflow_shr-head c = let b = c.loop-gaps.invariant in omega (arith, b.gap, b.few)
 
-pub overflow_cast-head-else-index-with_comma : goal.overflow_cast-head-else-index-with_comma
-overflow_cast-head-else-index-with_comma c = omega arith
-
 pub overflow_add-head : goal.overflow_add-head
 overflow_add-head c = record {
   fits = head_fits _ _ c.loop-gaps.invariant c.loop-gaps-test.true _ (omega arith);
@@ -84,17 +66,11 @@ overflow_sub-left c =
     rw (shared c.loop-gaps.invariant c.loop-gaps-test.true c.share-with_comma.ensures)
     (share_le _ _ c.loop-gaps.invariant.choices c.loop-gaps-test.true)
 
-pub loop-gaps-smaller : goal.loop-gaps-smaller
-loop-gaps-smaller c = omega (arith, c.loop-gaps-test.true)
-
 pub loop-gaps-preserved : goal.loop-gaps-preserved
 loop-gaps-preserved c =
     rw (shared c.loop-gaps.invariant c.loop-gaps-test.true c.share-with_comma.ensures)
     (plus_turn _ _ c.loop-gaps.invariant c.loop-gaps-test.true
     (rw (shared c.loop-gaps.invariant c.loop-gaps-test.true c.share-with_comma.ensures) at c.if-index-with_comma.false))
-
-pub bounds-heads-0 : goal.bounds-heads-0
-bounds-heads-0 c = omega arith
 
 pub returns : goal.returns
 returns c = finished _ _ c.loop-gaps.invariant c.loop-gaps-test.false

@@ -58,20 +58,8 @@ nonzero_div-bits c =
     let b = c.args.block in
     some_word b.n b.k c.args.place b.le_k b.k_le_n c.requires c.word_count-words.result (counted c.word_count-words.ensures (few b))
 
-pub overflow_sub-index : goal.overflow_sub-index
-overflow_sub-index c = omega arith
-
-pub overflow_cast-index : goal.overflow_cast-index
-overflow_cast-index c = omega arith
-
-pub overflow_shr-index : goal.overflow_shr-index
-overflow_shr-index c = omega arith
-
 pub overflow_cast-index-2 : goal.overflow_cast-index-2
 overflow_cast-index-2 c = record { fits = omega (arith, (begins c).share.inside, c.args.block.compositions_value) }
-
-pub overflow_sub-commas : goal.overflow_sub-commas
-overflow_sub-commas c = omega arith
 
 pub loop-gaps-init : goal.loop-gaps-init
 loop-gaps-init c = begins c
@@ -95,9 +83,6 @@ overflow_sub-commas-then-index-with_comma c =
     comma_left _ _ l.invariant.share c.loop-gaps-test.true
     (rw (shared c.loop-gaps.invariant c.loop-gaps-test.true c.share-with_comma.ensures) at c.if-index-with_comma.true)
 
-pub loop-gaps-smaller-then-index-with_comma : goal.loop-gaps-smaller-then-index-with_comma
-loop-gaps-smaller-then-index-with_comma c = omega (arith, c.loop-gaps-test.true)
-
 pub loop-gaps-preserved-then-index-with_comma : goal.loop-gaps-preserved-then-index-with_comma
 loop-gaps-preserved-then-index-with_comma c =
     rw ((shared c.loop-gaps.invariant c.loop-gaps-test.true c.share-with_comma.ensures), c.scaled.ensures)
@@ -119,9 +104,6 @@ pub overflow_sub-left : goal.overflow_sub-left
 overflow_sub-left c =
     rw (shared c.loop-gaps.invariant c.loop-gaps-test.true c.share-with_comma.ensures)
     (share_le _ _ c.loop-gaps.invariant.share c.loop-gaps-test.true)
-
-pub loop-gaps-smaller : goal.loop-gaps-smaller
-loop-gaps-smaller c = omega (arith, c.loop-gaps-test.true)
 
 pub loop-gaps-preserved : goal.loop-gaps-preserved
 loop-gaps-preserved c =
