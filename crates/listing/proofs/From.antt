@@ -55,7 +55,8 @@ module _ (n position : ℕ) (out : List ℕ) (many : ℕ) (e : from_reply n posi
   causes : (outside 1 31 n ≡ false) × ((leb (list_length n) position ≡ false) × ((ltb (length out) 2 ≡ false) × Unit {0}))
   unfolding from_reply
   causes =
-      none_applies (degree_cause n ∷ leb (list_length n) position gives 2 ∷ ltb (length out) 2 gives 4 ∷ []) (length given ∷ []) (many ∷ []) e
+      none_applies (degree_cause n ∷ leb (list_length n) position gives 2 ∷ ltb (length out) 2 gives 4 ∷ [])
+      (length given ∷ []) (many ∷ []) e
 
   reply : from_reply n position (length out) ≡ served (length given ∷ [])
   unfolding from_reply

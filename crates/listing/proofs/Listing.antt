@@ -57,7 +57,8 @@ pub fewer : (self : Block) (next : Option Block) → Next self next → left nex
 fewer self None h = omega arith
 fewer self (Some block) (degree, quotients) = omega (arith, degree, quotients, block.k_le_n)
 
-pub begins : {n position : ℕ} {old : List ℕ} (next : Option Block) → First n next → 2 ≤ n → n ≤ 31 → Going n position old old next position 0
+pub begins : {n position : ℕ} {old : List ℕ} (next : Option Block) → First n next → 2 ≤ n → n ≤ 31
+    → Going n position old old next position 0
 begins {n} next first low high = record { long = refl; completes = λ new all w. rw (from_first n next first low high) at w }
 
 module _ {n position skip done : ℕ} {old out : List ℕ} where

@@ -97,8 +97,8 @@ fn heads_of(block: Block, group: u64) -> [u32; 32]
 }
 
 // The pairs that the first m heads, the last of these first, make of (r, s) with each word of m letters; `skip`, `done` and the result as
-// above. The words that begin with 0 come first. Before the last letter either one is possible or none. The count goes in with the slice, so
-// that the second call is the last step: given the rest of the slice, and added to the first, it took 1.06 of the time.
+// above. The words that begin with 0 come first. Before the last letter either one is possible or none. The count goes in with the slice,
+// so that the second call is the last step: given the rest of the slice, and added to the first, it took 1.06 of the time.
 fn fill(
     heads: &[u32; 32],
     m: usize,

@@ -1,5 +1,5 @@
--- The printed table of the counts of kept words: the closed form, tried at each of the 32 entries in one computation, holds of the number of
--- words too.
+-- The printed table of the counts of kept words: the closed form, tried at each of the 32 entries in one computation, holds of the number
+-- of words too.
 use mathlib.Core.Bool.{Bool}
 use mathlib.Core.List.{List, [], ◌∷◌}
 use mathlib.Core.Path.{◌≡◌}

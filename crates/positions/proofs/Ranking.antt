@@ -15,7 +15,8 @@ use Rattle.pairs.specs.Words.{State, s10, s11, s01, step, leads, words_from}
 use Rattle.pairs.specs.Sequences.{compositions, sequences}
 use Rattle.positions.specs.Ranking.{StandsAt, Among, last_letters, backwards}
 use Rattle.pairs.proofs.Valid.{EachPositive, Valid}
-use Rattle.pairs.proofs.Words.{count, count_suc, word_rank, length_words, listed_words_from, WordAt, word_at_known, word_rank_lt, word_at_rank}
+use Rattle.pairs.proofs.Words.{count, count_suc, length_words, listed_words_from}
+use Rattle.pairs.proofs.Words.{word_rank, word_rank_lt, word_at_known, word_at_rank, WordAt}
 use Rattle.pairs.proofs.Compositions.{
   parts,
   composition_rank,

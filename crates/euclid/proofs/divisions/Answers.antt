@@ -1,3 +1,4 @@
+-- `divisions` meets its contract: a division takes one quotient off the front of the chain that is still to be written.
 use mathlib.Core.List.{List}
 use mathlib.Core.Path.{sym, ap, ◌∙◌}
 use Prim.Native.Nat.{ℕ, ◌+◌, ◌<◌}

@@ -1,3 +1,4 @@
+-- `gcd` meets its contract: a division keeps the greatest common divisor, and the remainder is smaller than the divisor.
 use mathlib.Core.Path.{sym, ap, ◌∙◌}
 use Rattle.poly.specs.Coprime.{gcd}
 use Rattle.euclid.proofs.Steps.{divided_gcd, divided_less}

@@ -1,3 +1,4 @@
+-- `fill` meets its contract: one letter is the last, or both letters go on, and what is written for each is written one after the other.
 use mathlib.Core.List.{List}
 use mathlib.Core.Path.{◌≡◌, sym, ◌∙◌}
 use Prim.Native.Nat.{ℕ, ◌-◌, ◌<◌}

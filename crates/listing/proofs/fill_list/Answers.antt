@@ -1,3 +1,4 @@
+-- `fill_list` meets its contract: the list is its blocks one after the other, while there is a next one.
 use mathlib.Core.Path.{ap, ◌∙◌}
 use Prim.Native.Nat.{◌-◌}
 use Rattle.listing.proofs.Listing.{begins, stops_done, turn}

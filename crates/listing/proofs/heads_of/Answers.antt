@@ -1,3 +1,4 @@
+-- `heads_of` meets its contract: each gap is a comma or a plus, and the share of the compositions with a comma tells which.
 use mathlib.Core.Path.{◌≡◌, refl, ◌∙◌}
 use mathlib.Core.List.{List}
 use Prim.Native.Nat.{ℕ, ◌+◌, ◌-◌, ◌*◌, ◌/◌, ◌^◌, ◌<◌}
@@ -13,7 +14,9 @@ first : (b : Block) (i : ℕ) → i < b.compositions * 2 ^ (b.n - b.k)
 first b i h = begins b.n b.k b.compositions i (replicate 32 0) b.le_k b.k_le_n b.n_bound b.compositions_value h refl
 
 pub overflow_cast-index-2 : goal.overflow_cast-index-2
-overflow_cast-index-2 c = record { fits = omega (arith, (first c.args.block c.args.group c.requires).choices.inside, c.args.block.compositions_value) }
+overflow_cast-index-2 c =
+    let begun = first c.args.block c.args.group c.requires in
+    record { fits = omega (arith, begun.choices.inside, c.args.block.compositions_value) }
 
 pub loop-gaps-init : goal.loop-gaps-init
 loop-gaps-init c = first c.args.block c.args.group c.requires
@@ -22,8 +25,8 @@ pub overflow_mul-left : goal.overflow_mul-left
 overflow_mul-left c = let b = c.loop-gaps.invariant in record { fits = share_fits b.choices (omega (arith, b.few, b.gap)) }
 
 -- the share, as it is computed
-shared : {n k group : ℕ} {heads : List ℕ} {index left gaps commas head x : ℕ} → Between n k group heads index left gaps commas head → 0 < gaps
-    → x ≡ left * commas * (2 ^ 32 / (gaps - 1 + 1) + 1) / 2 ^ 32 → x ≡ left * commas / gaps
+shared : {n k group : ℕ} {heads : List ℕ} {index left gaps commas head x : ℕ}
+    → Between n k group heads index left gaps commas head → 0 < gaps → x ≡ left * commas * (2 ^ 32 / (gaps - 1 + 1) + 1) / 2 ^ 32 → x ≡ left * commas / gaps
 shared {gaps = gaps} b pos e =
     let same : gaps - 1 + 1 ≡ gaps = omega arith in rw same at e ∙ share_computed _ _ b.choices pos (omega (arith, b.few, b.gap))
 

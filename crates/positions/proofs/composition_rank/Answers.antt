@@ -1,3 +1,4 @@
+-- `composition_rank` meets its contract: a plus adds the compositions with a comma in its place, a comma ends a degree.
 use mathlib.Core.Bool.{cond}
 use mathlib.Core.List.{List, ◌∷◌, map}
 use mathlib.Core.Path.{◌≡◌, sym, ap, ◌∙◌}
@@ -16,17 +17,7 @@ use Rattle.pairs.proofs.Valid.{Valid}
 use Rattle.pairs.proofs.Compositions.{parts, listed_compositions, composition_rank, composition_rank_lt}
 use Rattle.pairs.proofs.Sizes.{parts_lt}
 use Rattle.positions.proofs.Ranking.{among_valid, length_backwards, backwards_count, backwards_step, composition_stands}
-use Rattle.positions.proofs.ReadBack.{
-  Walked,
-  walked_none,
-  walked_plus,
-  walked_comma,
-  walked_all,
-  left_several,
-  share_fits,
-  share_computed,
-  share_le,
-}
+use Rattle.positions.proofs.ReadBack.{Walked, walked_none, walked_plus, walked_comma, walked_all, share_fits, share_computed, share_le}
 use Rattle.positions.proofs.composition_rank.Invariants.{degrees}
 use Rattle.positions.proofs.composition_rank.Goals as goal
 
@@ -59,11 +50,6 @@ module _ (n : ℕ) (chain : List ℕ) (k : ℕ) (v : Valid n (backwards chain k)
       walked_none (degrees-step chain k (omega arith) is) v.positive v.total (length-degrees chain (k - 1))
       (all ∙ (listed_compositions n k).long ∙ ap (parts n) up)
 
-pub overflow_sub-commas : goal.overflow_sub-commas
-overflow_sub-commas c =
-    let a = c.args in
-    omega (arith, backwards_count a.block.n a.chain.now a.block.k (among_valid a.block.n (backwards a.chain.now a.block.k) c.requires.listed))
-
 pub loop-commas-init : goal.loop-commas-init
 loop-commas-init c =
     let a = c.args in
@@ -71,22 +57,6 @@ loop-commas-init c =
       omega (arith, backwards_count a.block.n a.chain.now a.block.k v),
       first a.block.n a.chain.now a.block.k v c.args.block.compositions_value c.degree_of-d.ensures,
     )
-
-pub overflow_sub-left : goal.overflow_sub-left
-overflow_sub-left c = omega (arith, left_several c.loop-commas.invariant.1 c.loop-commas-test.true)
-
-pub overflow_cast-commas : goal.overflow_cast-commas
-overflow_cast-commas c =
-    let a = c.args in
-    record {
-      fits = omega (
-        arith,
-        backwards_count a.block.n a.chain.now a.block.k
-            (among_valid a.block.n (backwards a.chain.now a.block.k) c.requires.listed),
-        c.loop-commas.invariant.0,
-        (small c.args.block),
-      );
-    }
 
 pub overflow_mul-count : goal.overflow_mul-count
 overflow_mul-count c = record { fits = share_fits c.loop-commas.invariant.1 (small c.args.block) }
@@ -137,22 +107,12 @@ overflow_sub-count c =
     rw (c.share-with_comma.ensures ∙ share_computed c.loop-commas.invariant.1 (small c.args.block) c.loop-commas-test.true)
     (share_le c.loop-commas.invariant.1 c.loop-commas-test.true)
 
-pub overflow_sub-d : goal.overflow_sub-d
-overflow_sub-d c = c.loop-commas.invariant.1.here
-
-pub overflow_sub-commas-in-loop-commas : goal.overflow_sub-commas-in-loop-commas
-overflow_sub-commas-in-loop-commas c =
-    rw c.either.ensures (one_at_most c.loop-commas.d c.loop-commas-test.true)
-
-pub loop-commas-smaller : goal.loop-commas-smaller
-loop-commas-smaller c = omega (arith, left_several c.loop-commas.invariant.1 c.loop-commas-test.true)
-
 pub loop-commas-preserved : goal.loop-commas-preserved
 loop-commas-preserved c = let a = c.args in (
   omega (arith, c.loop-commas.invariant.0),
   rw (c.either-count.ensures, c.either-d.ensures, c.either.ensures)
-      (walked_next a.block.n (degrees a.chain.now a.block.k) a.chain.now (small c.args.block) c.loop-commas-test.true c.share-with_comma.ensures
-      c.either-rank.ensures c.degree_of-next.ensures c.loop-commas.invariant.1),
+      (walked_next a.block.n (degrees a.chain.now a.block.k) a.chain.now (small c.args.block) c.loop-commas-test.true
+      c.share-with_comma.ensures c.either-rank.ensures c.degree_of-next.ensures c.loop-commas.invariant.1),
 )
 
 pub returns : goal.returns

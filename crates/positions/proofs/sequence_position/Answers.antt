@@ -46,15 +46,6 @@ module _ (n : ℕ) (chain : List ℕ) (k : ℕ) (listed : Among (sequences n) (b
 pub blocks_before-before-requires : goal.blocks_before-before-requires
 blocks_before-before-requires c = omega (arith, counted c.args.n c.args.chain.now c.args.k c.requires.listed)
 
-pub composition_rank-composition-requires : goal.composition_rank-composition-requires
-composition_rank-composition-requires c =
-    let b = c.blocks_before-before.ensures in
-    record { room = rw b.quotients c.requires.room; listed = rw (b.degree, b.quotients) c.requires.listed }
-
-pub bits_and_word-parts-requires : goal.bits_and_word-parts-requires
-bits_and_word-parts-requires c =
-    record { room = c.requires.room; listed = (c.args.n, c.requires.small, c.requires.listed) }
-
 pub rank10-word-requires : goal.rank10-word-requires
 rank10-word-requires c =
     let a = c.args in
@@ -65,21 +56,6 @@ rank10-word-requires c =
           word_leads (among_valid a.n (backwards a.chain.now a.k) c.requires.listed) (length_backwards a.chain.now a.k)
           c.bits_and_word-parts.ensures;
     }
-
-pub overflow_cast-place-2 : goal.overflow_cast-place-2
-overflow_cast-place-2 c = omega (arith, counted c.args.n c.args.chain.now c.args.k c.requires.listed)
-
-pub overflow_sub-place : goal.overflow_sub-place
-overflow_sub-place c = omega (arith, counted c.args.n c.args.chain.now c.args.k c.requires.listed)
-
-pub overflow_add-place : goal.overflow_add-place
-overflow_add-place c =
-    let b = c.blocks_before-before.ensures in
-    omega (
-      arith,
-      place_fits c.args.n c.args.chain.now c.args.k c.requires.listed c.requires.small c.bits_and_word-parts.ensures
-          (at_block c.args.n c.args.chain.now c.args.k c.requires.listed b.degree b.quotients c.composition_rank-composition.ensures),
-    )
 
 pub overflow_mul-result : goal.overflow_mul-result
 overflow_mul-result c =

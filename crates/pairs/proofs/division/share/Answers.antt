@@ -12,11 +12,5 @@ fits c =
     let le = mul-le-mul least most in
     omega arith
 
-pub overflow_mul-result : goal.overflow_mul-result
-overflow_mul-result c = record { fits = fits c }
-
-pub overflow_cast-result-2 : goal.overflow_cast-result-2
-overflow_cast-result-2 c = record { fits = omega (arith, fits c) }
-
 pub returns : goal.returns
 returns c = rw c.reciprocal.ensures

@@ -1,3 +1,4 @@
+-- `pair_in` meets its contract: each gap is a comma or a plus, and the share of the compositions with a comma tells which.
 use mathlib.Core.Path.{◌≡◌, ◌∙◌}
 use Prim.Native.Nat.{ℕ, ◌+◌, ◌-◌, ◌*◌, ◌/◌, ◌^◌, ◌≤◌, ◌<◌}
 use native.Mathlib.Nat.{mod-lt, mod-mod}

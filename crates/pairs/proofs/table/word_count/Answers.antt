@@ -4,16 +4,12 @@ use borrow.Author.Rules.{rules}
 use borrow.Author.Tests.{le-ltb}
 use Rattle.pairs.specs.Words.{tabled}
 use Rattle.pairs.proofs.Words.{tabled_is}
-use Rattle.pairs.proofs.WordCounts.{table, right, small}
+use Rattle.pairs.proofs.WordCounts.{table, right}
 use Rattle.pairs.proofs.table.word_count.Goals as goal
 
 pub returns-then-k-ge32 : goal.returns-then-k-ge32
 unfolding tabled
 returns-then-k-ge32 c = rw (le-ltb c.args.k 32 c.if-k-ge32.true)
-
-pub overflow_cast-result : goal.overflow_cast-result
-unfolding table
-overflow_cast-result c = record { fits = small c.args.k (search rules) }
 
 pub returns : goal.returns
 unfolding table

@@ -28,7 +28,8 @@ module _ {s : State} {t m x z o : ℕ} (h : Here s t m x z o) where
         × ((m - 1 < 32) × ((z ≡ length (words_from (step s false) (m - 1))) × (leads (step s false) (last_letters (m - 1) x) ≡ true)))
     asks_0 = (omega arith, (omega arith, (h.shares.zeros, reads_zero s m x some letter h.word)))
 
-    gives-0 : {r : ℕ} → StandsAt (words_from (step s false) (m - 1)) r (last_letters (m - 1) x) → StandsAt (words_from s m) r (last_letters m x)
+    gives-0 : {r : ℕ} → StandsAt (words_from (step s false) (m - 1)) r (last_letters (m - 1) x)
+        → StandsAt (words_from s m) r (last_letters m x)
     gives-0 = ranks_zero s m x some letter
 
   module _ (letter : x / 2 ^ (m - 1) % 2 ≡ 0 → ⊥) where

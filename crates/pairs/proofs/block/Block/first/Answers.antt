@@ -1,5 +1,5 @@
--- `Block::first` meets its contract: n has n - 1 compositions into 2 parts, one for each gap between n ones, and 2 of the words of 2 letters
--- are kept.
+-- `Block::first` meets its contract: n has n - 1 compositions into 2 parts, one for each gap between n ones, and 2 of the words of 2
+-- letters are kept.
 use mathlib.Core.Path.{sym, ◌∙◌}
 use native.Mathlib.Omega.{arith}
 use Rattle.pairs.proofs.Words.{listed_words}
