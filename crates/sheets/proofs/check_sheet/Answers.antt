@@ -21,7 +21,6 @@ use Rattle.std.specs.Ordering.{nat_cmp}
 use Rattle.sheets.specs.Replies.{sheet_size, check_sheet_reply}
 use Rattle.poly.proofs.Ranges.{outside_below, outside_above, inside}
 use Rattle.sheets.proofs.Below.{all_at}
-use Rattle.sheets.proofs.Reading.{few_sites}
 use Rattle.sheets.proofs.check_sheet.Goals as goal
 
 -- what the test of the order tells
@@ -102,13 +101,3 @@ returns c =
       c.if-not-all_symbols.false,
       sym c.graeco_latin.ensures ∙ c.if-not-graeco_latin.false,
     )
-
-pub overflow_mul-size : goal.overflow_mul-size
-overflow_mul-size c =
-    let (_, high) = tested c.contains.ensures.cases c.new.ensures.start c.new.ensures.end c.if-not-contains.false in
-    record { fits = omega (arith, few_sites high) }
-
-pub overflow_mul-size-2 : goal.overflow_mul-size-2
-overflow_mul-size-2 c =
-    let (_, high) = tested c.contains.ensures.cases c.new.ensures.start c.new.ensures.end c.if-not-contains.false in
-    record { fits = omega (arith, few_sites high) }

@@ -4,9 +4,3 @@ use Rattle.squares.proofs.swapped.Goals as goal
 
 pub returns : goal.returns
 returns c = exchange c.args.x c.requires
-
-pub overflow_shr-result : goal.overflow_shr-result
-overflow_shr-result c = c.requires.few
-
-pub overflow_shl-result : goal.overflow_shl-result
-overflow_shl-result c = c.requires.few
