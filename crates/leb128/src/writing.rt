@@ -3,7 +3,7 @@ ghost use Rattle.std.specs.Prelude.{◌≡◌, ◌+◌, ◌≤◌, leb, length};
 ghost use Rattle.leb128.specs.Number.{encode_number};
 ghost use Rattle.leb128.specs.Writing.{Puts, PutsFitting};
 
-// How many bytes a number takes.
+// How many bytes a number takes. Most numbers are small, and end at one of the first tests.
 pub fn width(value: u64) -> usize
     ensures { (result ≡ length (encode_number value)) × (result ≤ 10) }
 {

@@ -18,7 +18,8 @@ module _ (file : List ℕ) (at size start : ℕ) (e : field limits64 size_causes
   name_missing h = rw (e, length-drop, lt-ltb (length file - start) size h)
 
   module _ (h : size ≤ length file - start) where
-    pub name_unprintable : any_unprintable (take size (drop start file)) ≡ true → (parse_name today >>= parse_end) (drop at file) ≡ failed 16
+    pub name_unprintable : any_unprintable (take size (drop start file)) ≡ true
+        → (parse_name today >>= parse_end) (drop at file) ≡ failed 16
     unfolding parse_name parse_text
     name_unprintable u = rw (e, length-drop, le-ltb (length file - start) size h, u)
 

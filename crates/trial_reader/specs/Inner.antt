@@ -85,7 +85,8 @@ lists_parsed file lists (Ok next) = parsed lists (drop next file)
 lists_parsed file lists (Err why) = failed (number_of why)
 
 -- The answer, with the three slices afterwards, is what the parser of the lists gives at the position.
-pub record ListsRead (file : List ℕ) (at : ℕ) (h : Option ℕ) (count : ℕ) (r : Result ℕ Refusal) (powers forces times : List ℕ) : Type 0 where
+pub record ListsRead (file : List ℕ) (at : ℕ) (h : Option ℕ) (count : ℕ) (r : Result ℕ Refusal) (powers forces times : List ℕ)
+    : Type 0 where
   pub says : lists_parsed file (lists_at h count powers forces times) r ≡ parse_lists today count (suc (version_of h)) (drop at file)
   pub inside : ListInside file r
 
@@ -135,7 +136,8 @@ TrialInside file (Ok layout) = LayoutInside file layout
 TrialInside file (Err why) = Unit
 
 -- The answer, with the slices afterwards, is what the parser of a content gives at the position.
-pub record Surveys (parser : Parser Trial) (file : List ℕ) (at : ℕ) (r : Result Layout Refusal) (powers forces times : List ℕ) : Type 0 where
+pub record Surveys (parser : Parser Trial) (file : List ℕ) (at : ℕ) (r : Result Layout Refusal) (powers forces times : List ℕ)
+    : Type 0 where
   pub says : trial_parsed file powers forces times r ≡ parser (drop at file)
   pub inside : TrialInside file r
 

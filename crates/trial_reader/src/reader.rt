@@ -84,13 +84,7 @@ pub fn read(
     ensures { ReadDone file.now powers.old forces.old times.old result
         powers.new forces.new times.new }
 {
-    if powers.len() < 64 {
-        return Err(Refusal::SliceLength);
-    }
-    if forces.len() < 64 {
-        return Err(Refusal::SliceLength);
-    }
-    if times.len() < 64 {
+    if powers.len() < 64 || forces.len() < 64 || times.len() < 64 {
         return Err(Refusal::SliceLength);
     }
     let mut levels = Levels {
@@ -136,16 +130,8 @@ pub fn name_part<'a>(file: &'a [u8], answer: Result<Content, Refusal>) -> &'a [u
     let Ok(content) = answer else {
         return &file[..0];
     };
-    let start = content.name_at;
-    let size = content.size;
-    if file.len() < start {
-        return &file[..0];
-    }
-    if file.len() - start < size {
-        return &file[start..];
-    }
-    let end = start + size;
-    &file[start..end]
+    let rest = &file[content.name_at.min(file.len())..];
+    &rest[..content.size.min(rest.len())]
 }
 
 // What became of a file: the answer, and the name as the part of the file that holds it, empty where the file was refused.

@@ -1,3 +1,4 @@
+-- `none_twice` meets its contract: a level found among those before it repeats one; one that is not, or whose slot is free, is new.
 use mathlib.Core.Path.{sym, ◌∙◌}
 use Rattle.levels.proofs.Filter.{found_repeated, one_filtered}
 use Rattle.levels.proofs.none_twice.Goals as goal
@@ -11,6 +12,8 @@ loop-i-preserved c =
     let s = c.loop-i.invariant in
     let there = c.loop-i-test.true in
     elim c.else-seen-slot.branch [
-      | else-seen-slot-via-then-seen-slot+else-among w ↦ rw c.from-slot.ensures (one_filtered s there (sym w.among.ensures ∙ w.if-among.false))
-      | else-seen-slot-via-else-seen-slot w ↦ rw c.from-slot.ensures (one_filtered s there (s.free _ (rw c.from-slot.ensures at w.if-seen-slot.false)))
+      | else-seen-slot-via-then-seen-slot+else-among w ↦
+          rw c.from-slot.ensures (one_filtered s there (sym w.among.ensures ∙ w.if-among.false))
+      | else-seen-slot-via-else-seen-slot w ↦
+          rw c.from-slot.ensures (one_filtered s there (s.free _ (rw c.from-slot.ensures at w.if-seen-slot.false)))
     ]

@@ -1,3 +1,4 @@
+-- `rising` meets its contract: a level not above the one before it settles the answer, another leaves it as it was.
 use Rattle.levels.proofs.Ascent.{not_rising, one_rising}
 use Rattle.levels.proofs.rising.Goals as goal
 use Rattle.levels.proofs.rising.Goals.{then-levels-i, else-levels-i}

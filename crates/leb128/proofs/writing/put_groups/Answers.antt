@@ -1,3 +1,4 @@
+-- `put_groups` meets its contract: in a turn the lowest group is put, and behind the loop the last one.
 use mathlib.Core.List.{[], ◌∷◌}
 use Prim.Native.Nat.{◌+◌, ◌/◌, ◌%◌}
 use native.Mathlib.Omega.{arith}

@@ -24,13 +24,16 @@ pub returns-then-value-lt4398046511104 : goal.returns-then-value-lt4398046511104
 returns-then-value-lt4398046511104 c = (sym (encode_length 5 _ c.if-value-lt34359738368.false c.if-value-lt4398046511104.true), lit≤ tt)
 
 pub returns-then-value-lt562949953421312 : goal.returns-then-value-lt562949953421312
-returns-then-value-lt562949953421312 c = (sym (encode_length 6 _ c.if-value-lt4398046511104.false c.if-value-lt562949953421312.true), lit≤ tt)
+returns-then-value-lt562949953421312 c =
+    (sym (encode_length 6 _ c.if-value-lt4398046511104.false c.if-value-lt562949953421312.true), lit≤ tt)
 
 pub returns-then-value-lt72057594037927936 : goal.returns-then-value-lt72057594037927936
-returns-then-value-lt72057594037927936 c = (sym (encode_length 7 _ c.if-value-lt562949953421312.false c.if-value-lt72057594037927936.true), lit≤ tt)
+returns-then-value-lt72057594037927936 c =
+    (sym (encode_length 7 _ c.if-value-lt562949953421312.false c.if-value-lt72057594037927936.true), lit≤ tt)
 
 pub returns-then-value-lt9223372036854775808 : goal.returns-then-value-lt9223372036854775808
-returns-then-value-lt9223372036854775808 c = (sym (encode_length 8 _ c.if-value-lt72057594037927936.false c.if-value-lt9223372036854775808.true), lit≤ tt)
+returns-then-value-lt9223372036854775808 c =
+    (sym (encode_length 8 _ c.if-value-lt72057594037927936.false c.if-value-lt9223372036854775808.true), lit≤ tt)
 
 pub returns : goal.returns
 returns c = (sym (encode_length 9 _ c.if-value-lt9223372036854775808.false (omega arith)), lit≤ tt)

@@ -28,7 +28,7 @@ returns-then-not-contains c =
     let a = c.args in
     let v = c.in_ok-version.version in
     let test : IsTrue c.contains.result ↔ ((1 ≤ v) × (v ≤ 2)) = search (rules, tests) in
-    barred_field (version_causes today) number a.file.now a.at c.in_ok-version.ensures refl Version
+    barred_field (version_causes today) number a.file.now a.at c.in_ok-version.ensures Version
     (rw (denied c.contains.result _ (in_range v _ test) c.if-not-contains.true))
 
 pub returns : goal.returns
@@ -36,5 +36,5 @@ returns c =
     let a = c.args in
     let v = c.in_ok-version.version in
     let test : IsTrue c.contains.result ↔ ((1 ≤ v) × (v ≤ 2)) = search (rules, tests) in
-    clear_field (version_causes today) number a.file.now a.at c.in_ok-version.ensures refl
+    clear_field (version_causes today) number a.file.now a.at c.in_ok-version.ensures
     (upheld c.contains.result _ (in_range v _ test) c.if-not-contains.false, tt)

@@ -1,3 +1,4 @@
+-- `decode_levels` meets its contract: what a level is refused for stops the parser too, and a level read is one more passed.
 use mathlib.Core.Path.{sym}
 use native.Mathlib.Omega.{arith}
 use Rattle.trial_reader.proofs.Passes.{no_number, too_high, one_passed, front, one_stored}

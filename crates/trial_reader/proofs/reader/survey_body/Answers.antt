@@ -18,7 +18,8 @@ module _ (file : List ℕ) (at : ℕ) (h : Option ℕ) (n count : ℕ) (same : c
   given : {next : ℕ} → ListsRead file at h count (Ok next) powers forces times
       → parse_lists today (2 ^ n) (suc (version_of h)) (drop at file) ≡ parsed (lists_at h count powers forces times) (drop next file)
   given {next} read =
-      subst (λ order. parse_lists today order (suc (version_of h)) (drop at file) ≡ parsed (lists_at h count powers forces times) (drop next file)) same
+      let lists = lists_at h count powers forces times in
+      subst (λ order. parse_lists today order (suc (version_of h)) (drop at file) ≡ parsed lists (drop next file)) same
       (sym read.says)
 
   not_given : {why : Refusal} → ListsRead file at h count (Err why) powers forces times

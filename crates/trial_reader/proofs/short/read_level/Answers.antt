@@ -63,6 +63,3 @@ returns-then-third-lt128 c =
     c.from-second.result (sym c.from-second.ensures) c.if-second-lt128.false c.from-third.result
     (sym c.from-third.ensures) (omega arith) c.if-third-eq0.false c.if-third-lt128.true in
     record { says = sym says; inside = omega arith }
-
-pub returns : goal.returns
-returns c = c.read_number.ensures

@@ -12,12 +12,3 @@ returns-then-byte-lt128 c =
     let a = c.args in
     let says = one_byte a.file.now a.at c.from-byte.result (sym c.from-byte.ensures) (omega arith) c.if-byte-lt128.true in
     record { says = sym says; inside = omega arith }
-
-pub bounds-file-at : goal.bounds-file-at
-bounds-file-at c = omega arith
-
-pub overflow_add-result : goal.overflow_add-result
-overflow_add-result c = omega arith
-
-pub returns : goal.returns
-returns c = c.read_number.ensures
