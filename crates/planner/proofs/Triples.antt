@@ -22,7 +22,7 @@ use Rattle.trial.specs.Trial.{head_causes}
 use Rattle.trial.proofs.Content.{sound}
 use Rattle.trial.proofs.Trial.{head_back}
 use Rattle.trial.proofs.Codec.{read_same}
-use Rattle.triples.specs.Triples.{Triple}
+use Rattle.triples.specs.declared.Triple.{Triple}
 use Rattle.triples.specs.Replies.{triple_reply, triple_at_reply}
 use Rattle.triples.specs.Claims.{OddCode, CoprimeTriple, GivenOnce}
 use Rattle.triples.proofs.Calls.{call_gives}

@@ -9,7 +9,7 @@ use Rattle.leb128.specs.Number.{AllBelow}
 use Rattle.trial.specs.Rules.{today}
 use Rattle.trial.specs.Trial.{Head, Trial, head_from, encode_head, head_causes, parse_head}
 use Rattle.trial.specs.Replies.{read}
-use Rattle.triples.specs.Triples.{Triple}
+use Rattle.triples.specs.declared.Triple.{Triple}
 use Rattle.triples.specs.Replies.{triple_reply, triple_at_reply}
 use Rattle.triples.specs.Claims.{GivenOnce}
 
