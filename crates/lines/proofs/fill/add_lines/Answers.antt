@@ -53,8 +53,9 @@ shape_of-out-then-used-filling c =
 pub returns-then-used-filling : goal.returns-then-used-filling
 returns-then-used-filling c =
     let (begun, next) = c.loop-i.invariant in
-    rw next
-    (stops c.args.before.next _ c.args.codes.now begun c.loop-i-test.true (rw next at c.add_line-used.ensures) c.if-used-filling.true)
+    let line = rw next at c.add_line-used.ensures in
+    let put = stops c.args.before.next _ c.args.codes.now begun c.loop-i-test.true line c.if-used-filling.true in
+    rw (← next) at put
 
 pub loop-i-preserved : goal.loop-i-preserved
 loop-i-preserved c =
