@@ -58,7 +58,7 @@ pub fn put_number(out: &mut [u8], at: usize, value: u64) -> usize
     at
 }
 
-// The same where it fits.
+// The same where it fits. The loop ends with the value: how many groups there are is what it finds.
 fn put_groups(out: &mut [u8], at: usize, value: u64) -> usize
     requires { at + length (encode_number value) ≤ length out.old }
     ensures { Puts out.old at (encode_number value) result out.new }

@@ -1,4 +1,5 @@
-// The fields in front of the levels, and the size of the name: each a number with its own rule.
+// The fields in front of the levels, and the size of the name: each a number with its own rule, width and refusal, so that a function for
+// each is plainer than one that takes all three.
 ghost use Rattle.std.specs.Prelude.{false, [], ◌∷◌, ◌≡◌, ◌≤◌, length};
 ghost use Rattle.reply.specs.Reply.{served, unless};
 ghost use Rattle.poly.specs.Limits.{outside};
