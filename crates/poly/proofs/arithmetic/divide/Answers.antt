@@ -1,3 +1,4 @@
+-- `divide` meets its contract: each turn puts one term into the quotient, and takes b times that term from the remainder.
 use mathlib.Core.Path.{◌≡◌, sym, ap, ◌∙◌}
 use Prim.Native.Nat.{ℕ, suc, ◌+◌, ◌-◌, ◌*◌, ◌/◌, ◌%◌, ◌^◌, ◌≤◌, ◌<◌}
 use native.Mathlib.Nat.{le_refl, pos_of_ne-zero, lt_of_lt_of_le, lt_trans}

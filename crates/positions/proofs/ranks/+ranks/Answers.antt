@@ -1,3 +1,4 @@
+-- The rankers meet their contracts: before a word stand those with a lower first letter, and those behind it that lead on alike.
 use mathlib.Core.Bool.{true, false}
 use mathlib.Core.Path.{◌≡◌}
 use Prim.Native.Nat.{ℕ, ◌+◌, ◌-◌, ◌/◌, ◌%◌, ◌^◌, ◌≤◌, ◌<◌}
