@@ -114,7 +114,7 @@ fn fill(
     if out.len() / 2 <= done {
         return done;
     }
-    if all_skipped(m, r, skip) {
+    if (Words { letters: m, r }).all_skipped(skip) {
         return done;
     }
     let next = turned(heads[m - 1], r, s);
@@ -123,7 +123,11 @@ fn fill(
         return put(next, next ^ r, skip.saturating_sub(1), out, one);
     }
     let half = fill(heads, m - 1, skip, next, r, out, done);
-    let rest = rest_of(skip, m - 1, next);
+    let first = Words {
+        letters: m - 1,
+        r: next,
+    };
+    let rest = first.skipped_behind(skip);
     fill(heads, m - 1, rest, next ^ r, r, out, half)
 }
 
@@ -150,36 +154,44 @@ fn put(f: u32, g: u32, skip: u64, out: &mut [u32], done: usize) -> usize
     done + 1
 }
 
-// Whether the first `skip` words of m letters from (r, s) are all of them, whatever s is. None at all is frequent and needs no count.
-fn all_skipped(m: usize, r: u32, skip: u64) -> bool
-    requires { (1 ≤ m) × (m ≤ 31) }
-    ensures { (s : ℕ) → result ≡ leb (length (words_from (state_of r s) m)) skip }
-{
-    if skip == 0 {
-        return m + (r % 2) as usize == 2;
-    }
-    words_from(m, r) <= skip
+// The words of so many letters that lead to (1,0) from the state of (r, s). How many there are depends on r alone, since from (1,1) there
+// are as many as from (1,0).
+#[derive(Clone, Copy)]
+struct Words {
+    letters: usize,
+    r: u32,
+    ghost some: { 1 ≤ letters },
+    ghost few: { letters ≤ 31 },
 }
 
-// How many are to be skipped of what follows those words.
-fn rest_of(skip: u64, m: usize, r: u32) -> u64
-    requires { (1 ≤ m) × (m ≤ 31) }
-    ensures { (s : ℕ) → result ≡ skip - length (words_from (state_of r s) m) }
-{
-    if skip == 0 {
-        return 0;
+impl Words {
+    // Whether the first `skip` of them are all. None at all is frequent and needs no count.
+    fn all_skipped(self, skip: u64) -> bool
+        ensures { (s : ℕ) → result ≡ leb (length (words_from (state_of self.r s) self.letters)) skip }
+    {
+        if skip == 0 {
+            return self.letters + (self.r % 2) as usize == 2;
+        }
+        self.count() <= skip
     }
-    skip.saturating_sub(words_from(m, r))
-}
 
-// How many words of m letters lead from the state of (r, s) to (1,0), whatever s is: as many from (1,1) as from (1,0), and from (0,1) twice
-// as many as from (1,0) with one letter less.
-fn words_from(m: usize, r: u32) -> u64
-    requires { (1 ≤ m) × (m ≤ 31) }
-    ensures { (s : ℕ) → result ≡ length (words_from (state_of r s) m) }
-{
-    if r % 2 == 0 {
-        return 2 * word_count(m - 1);
+    // How many are to be skipped of what follows them.
+    fn skipped_behind(self, skip: u64) -> u64
+        ensures { (s : ℕ) → result ≡ skip - length (words_from (state_of self.r s) self.letters) }
+    {
+        if skip == 0 {
+            return 0;
+        }
+        skip.saturating_sub(self.count())
     }
-    word_count(m)
+
+    // How many there are: from (0,1) twice as many as from (1,0) with one letter less.
+    fn count(self) -> u64
+        ensures { (s : ℕ) → result ≡ length (words_from (state_of self.r s) self.letters) }
+    {
+        if self.r % 2 == 0 {
+            return 2 * word_count(self.letters - 1);
+        }
+        word_count(self.letters)
+    }
 }

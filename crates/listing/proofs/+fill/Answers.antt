@@ -36,4 +36,4 @@ fill-requires t c =
 
 pub returns : goal.returns
 returns t c =
-    both_letters c.requires c.turned-next.ensures (c.rest_of-rest.ensures _) c.fill-half.ensures c.fill.ensures
+    both_letters c.requires c.turned-next.ensures (c.skipped_behind-rest.ensures _) c.fill-half.ensures c.fill.ensures

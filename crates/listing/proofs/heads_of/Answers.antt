@@ -26,7 +26,8 @@ overflow_mul-left c = let b = c.loop-gaps.invariant in record { fits = share_fit
 
 -- the share, as it is computed
 shared : {n k group : ℕ} {heads : List ℕ} {index left gaps commas head x : ℕ}
-    → Between n k group heads index left gaps commas head → 0 < gaps → x ≡ left * commas * (2 ^ 32 / (gaps - 1 + 1) + 1) / 2 ^ 32 → x ≡ left * commas / gaps
+    → Between n k group heads index left gaps commas head → 0 < gaps → x ≡ left * commas * (2 ^ 32 / (gaps - 1 + 1) + 1) / 2 ^ 32
+    → x ≡ left * commas / gaps
 shared {gaps = gaps} b pos e =
     let same : gaps - 1 + 1 ≡ gaps = omega arith in rw same at e ∙ share_computed _ _ b.choices pos (omega (arith, b.few, b.gap))
 

@@ -1,7 +1,0 @@
--- `rest_of` meets its contract: nothing skipped leaves nothing to skip.
-use mathlib.Core.Path.{ap, ◌∙◌}
-use Prim.Native.Nat.{◌-◌}
-use Rattle.listing.proofs.rest_of.Goals as goal
-
-pub returns : goal.returns
-returns c = λ s. c.saturating_sub.ensures ∙ ap (λ v. c.args.skip - v) (c.words_from.ensures s)
