@@ -1,22 +1,19 @@
 -- The reply to a draw, case by case, and the record after it.
-use mathlib.Core.Bool.{true, false, true≢false}
+use mathlib.Core.Bool.{true, false}
 use mathlib.Core.List.{List, [], ◌∷◌}
-use mathlib.Core.Path.{◌≡◌, refl, sym, ◌∙◌}
-use Rattle.std.specs.Prelude.{Option, None, Some, Result, Ok, Err, IsOkAnd, IsSome}
+use mathlib.Core.Path.{◌≡◌, sym, ◌∙◌}
 use Prim.Native.Nat.{ℕ, ◌≤◌, ◌<◌}
 use native.Mathlib.Decide.{dec_lt, ℕ_discrete}
 use native.Mathlib.Omega.{arith}
 use borrow.Author.Tests.{lt-ltb, le-ltb, eq-eqb, ne_eqb}
 use lib.ListN.{get_or}
-use Rattle.reply.specs.declared.Refusal.{Refusal}
 use Rattle.reply.specs.Reply.{Reply, served, refused, spent, unless}
 use Rattle.reply.proofs.Order.{failed, kept}
 use Rattle.poly.specs.Limits.{list_length}
 use Rattle.euclid.specs.Chain.{Pair}
-use Rattle.pairs.specs.declared.pair.Pair.{Pair as Offered}
 use Rattle.walk.specs.declared.Walk.{Walk}
 use Rattle.walk.specs.Walks.{full_count, bad_record, record_cause, pair_or_spent, held, held_reply, bonder_cause, full_cause}
-use Rattle.walk.specs.Walks.{next_reply, draw_reply, moved_on, after_draw}
+use Rattle.walk.specs.Walks.{draw_reply, moved_on, after_draw}
 use Rattle.walk.specs.Claims.{NotRefused}
 use Rattle.walk.proofs.Tests.{tested}
 
@@ -136,16 +133,3 @@ module _ (walk : Walk) (bonder : ℕ) where
   pub stays_refused : {k : ℕ} → refused k ≡ draw_reply walk bonder → walk ≡ after_draw walk bonder
   unfolding after_draw
   stays_refused e = kept e _ walk
-
-  -- as the answer tells
-  pub moves_where : (answer : Result (Option Offered) Refusal) → next_reply answer ≡ draw_reply walk bonder → IsOkAnd answer IsSome
-      → moved_on walk bonder ≡ after_draw walk bonder
-  moves_where (Ok (Some two)) e gives = moves e
-  moves_where (Ok None) e gives = absurd (true≢false (sym gives))
-  moves_where (Err refusal) e gives = absurd gives
-
-  pub stays_where : (answer : Result (Option Offered) Refusal) → next_reply answer ≡ draw_reply walk bonder → (IsOkAnd answer IsSome → ⊥)
-      → walk ≡ after_draw walk bonder
-  stays_where (Ok (Some two)) e none = absurd (none refl)
-  stays_where (Ok None) e none = stays_spent e
-  stays_where (Err refusal) e none = stays_refused e
