@@ -124,7 +124,7 @@ no_letter f g s10 same = ap (λ x. x ∷ []) same
 no_letter f g s11 same = refl
 no_letter f g s01 same = refl
 
-words_map : {B : Type 0} (f g : List Bool → B) (s : State) (k : ℕ) → ((w : List Bool) → length w ≡ k → f w ≡ g w)
+pub words_map : {B : Type 0} (f g : List Bool → B) (s : State) (k : ℕ) → ((w : List Bool) → length w ≡ k → f w ≡ g w)
     → map f (words_from s k) ≡ map g (words_from s k)
 words_map f g s zero same = no_letter f g s (same [] refl)
 words_map f g s (suc k) same =

@@ -62,7 +62,7 @@ fn fill_block(block: Block, skip: u64, out: &mut [u32], done: usize) -> usize
             return filled;
         }
         let heads = heads_of(block, group);
-        filled = fill(&heads, block.k as usize, first, 1, 0, out, filled);
+        filled = fill(&heads[..block.k as usize], first, 1, 0, out, filled);
         first = 0;
     }
     filled
@@ -96,21 +96,14 @@ fn heads_of(block: Block, group: u64) -> [u32; 32]
     heads
 }
 
-// The pairs that the first m heads, the last of these first, make of (r, s) with each word of m letters; `skip`, `done` and the result as
-// above. The words that begin with 0 come first. Before the last letter either one is possible or none. The count goes in with the slice,
-// so that the second call is the last step: given the rest of the slice, and added to the first, it took 1.06 of the time.
-fn fill(
-    heads: &[u32; 32],
-    m: usize,
-    skip: u64,
-    r: u32,
-    s: u32,
-    out: &mut [u32],
-    done: usize,
-) -> usize
-    requires { Ready heads.now m r s }
-    ensures { Written (onward heads.now m r s) skip out.old done out.new result }
+// The pairs that the heads, the last one first, make of (r, s) with each word of as many letters; `skip`, `done` and the result as above.
+// The words that begin with 0 come first. Before the last letter either one is possible or none. The count goes in with the slice, so that
+// the second call is the last step: given the rest of the slice, and added to the first, it took 1.06 of the time.
+fn fill(heads: &[u32], skip: u64, r: u32, s: u32, out: &mut [u32], done: usize) -> usize
+    requires { Ready heads.now (length heads.now) r s }
+    ensures { Written (onward heads.now (length heads.now) r s) skip out.old done out.new result }
 {
+    let m = heads.len();
     if out.len() / 2 <= done {
         return done;
     }
@@ -122,13 +115,14 @@ fn fill(
         let one = put(next ^ r, next, skip, out, done);
         return put(next, next ^ r, skip.saturating_sub(1), out, one);
     }
-    let half = fill(heads, m - 1, skip, next, r, out, done);
+    let others = &heads[..m - 1];
+    let half = fill(others, skip, next, r, out, done);
     let first = Words {
         letters: m - 1,
         r: next,
     };
     let rest = first.skipped_behind(skip);
-    fill(heads, m - 1, rest, next ^ r, r, out, half)
+    fill(others, rest, next ^ r, r, out, half)
 }
 
 // What a quotient with this head and constant term 0 makes of (r, s).

@@ -16,6 +16,7 @@ use Rattle.pairs.proofs.Sizes.{parts_lt}
 use Rattle.listing.proofs.Written as written
 use Rattle.listing.proofs.Onward.{some_words}
 use Rattle.listing.proofs.Groups.{made, length_made, block_made, from_group, next_group, no_group, onward_made, first_ready}
+use Rattle.listing.proofs.Front.{written_front, ready_front}
 use Rattle.listing.proofs.fill_block.Invariants.{Going}
 use Rattle.listing.proofs.fill_block.Goals as goal
 
@@ -86,11 +87,14 @@ heads_of-heads-requires c = rw (shifted c.args.block) at c.loop-group-test.true
 pub fill-filled-requires : goal.fill-filled-requires
 fill-filled-requires c =
     let b = c.args.block in
-    first_ready c.heads_of-heads.ensures (rw (all_groups b) at c.loop-group-test.true) b.le_k b.k_le_n b.n_bound
+    ready_front c.heads_of-heads.result b.k (omega (arith, b.k_le_n, b.n_bound)) 1 0
+    (first_ready c.heads_of-heads.ensures (rw (all_groups b) at c.loop-group-test.true) b.le_k b.k_le_n b.n_bound)
 
 pub loop-group-preserved : goal.loop-group-preserved
 loop-group-preserved c =
-    turn c.loop-group.invariant c.loop-group-test.true c.heads_of-heads.ensures c.fill-filled.ensures
+    let b = c.args.block in
+    turn c.loop-group.invariant c.loop-group-test.true c.heads_of-heads.ensures
+    (written_front c.heads_of-heads.result b.k (omega (arith, b.k_le_n, b.n_bound)) 1 0 c.fill-filled.ensures)
 
 pub shape_of-out : goal.shape_of-out
 shape_of-out c = c.loop-group.invariant.long
