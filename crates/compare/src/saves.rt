@@ -7,7 +7,7 @@ use crate::sum::Sum;
 use crate::walks::{begun, calls};
 use walk::Walk;
 
-// A file at the front of bytes that are 170 at first: there is room for the longest file and some bytes behind it.
+// A file at the front of bytes that are 170 at first: there is room for the longest file and some bytes behind it, which are compared too.
 #[derive(Clone, Copy)]
 pub struct File {
     pub bytes: [u8; 160],

@@ -6,7 +6,8 @@ ghost use Rattle.leb128.specs.Inner.{parse_more};
 
 use reply::Refusal;
 
-// The number at a position of the file, with the position behind it.
+// The number at a position of the file, with the position behind it. A file goes with a position, and not as what is left of it, since the
+// reader of trials answers where in the file the name is.
 pub fn read_number(file: &[u8], at: usize) -> Result<(u64, usize), Refusal>
     ensures { Reads number file.now at result }
 {

@@ -21,7 +21,7 @@ pub(crate) fn pair_line(position: u64, pair: Pair, out: &mut [u8; 64]) -> usize
     put_pair(position, pair, out, 0)
 }
 
-// The same at a position of any slice.
+// The same at a position of any slice: a filling goes on where the line before ended, and says where that is.
 pub(crate) fn put_pair(position: u64, pair: Pair, out: &mut [u8], at: usize) -> usize
     requires { at + 63 ≤ length out.old }
     ensures placed { Placed out.old at (line (position ∷ pair.f ∷ pair.g ∷ [])) result out.new }

@@ -5,6 +5,8 @@ ghost use Rattle.poly.specs.Replies.{count_reply, order_reply, length_reply};
 
 use reply::Refusal;
 
+// Any number may stand in it: a call at a degree outside the limits answers that it is outside. So a private function that is only asked at a
+// degree inside says so by itself.
 #[derive(Clone, Copy)]
 pub struct Degree {
     pub n: u32,

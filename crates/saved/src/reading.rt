@@ -32,7 +32,8 @@ fn read_eight(file: &[u8], at: usize, most: u64) -> Result<([u64; 8], usize), Re
     Ok((numbers, next))
 }
 
-// The walk of these numbers with its next pair worked out, unless bytes stand behind them or the record is bad.
+// The walk of these numbers with its next pair worked out, unless bytes stand behind them or the record is bad. They come one by one, as the
+// file has them: the degree has 64 bits until here.
 fn ended(
     file: &[u8],
     at: usize,

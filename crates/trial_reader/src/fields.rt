@@ -80,7 +80,8 @@ pub(crate) fn read_head(file: &[u8]) -> Result<(Head, usize), Refusal>
     read_codes(file, at, version, degree)
 }
 
-// The codes, behind the version and the degree.
+// The codes, behind the version and the degree. Behind them a head shows its version by its third code; the fields come one by one, as the
+// file has them.
 fn read_codes(file: &[u8], at: usize, version: u32, degree: u32) -> Result<(Head, usize), Refusal>
     requires { (1 ≤ version) × (version ≤ 2) × (outside 2 6 degree ≡ false) }
     ensures { HeadRead (parse_coprime today version degree) file.now at result }
