@@ -3,7 +3,7 @@ use Prim.Native.Nat.{ℕ}
 use mathlib.Core.Path.{◌≡◌}
 use Rattle.codes.specs.Codes.{coprimes_of}
 use Rattle.triples.proofs.Finding.{Finding}
-use Rattle.triples.proofs.seek_second.Given as goal
+use Rattle.triples.proofs.TripleList.seek_second.Given as goal
 
 -- The set `first` is that of the codes coprime to f.
 pub record Kept (n half place first left rest : ℕ) : Type 0 where
@@ -11,7 +11,7 @@ pub record Kept (n half place first left rest : ℕ) : Type 0 where
   pub first_is : first ≡ coprimes_of half
 
 abbrev pub invariant-loop-rest : goal.invariant-loop-rest
-invariant-loop-rest l = Kept l.n l.half l.place l.first l.left l.rest
+invariant-loop-rest l = Kept l.fn.self.n l.half l.place l.first l.left l.rest
 
 abbrev pub decreases-loop-rest : goal.decreases-loop-rest
 decreases-loop-rest l = l.left

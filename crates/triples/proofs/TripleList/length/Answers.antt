@@ -1,4 +1,4 @@
--- `all` meets its contract: its cases are the numbers that were computed.
+-- `length` meets its contract: its cases are the numbers that were computed.
 use Prim.Native.Nat.{ℕ}
 use mathlib.Core.List.{List}
 use mathlib.Core.Path.{◌≡◌, sym, ap, ◌∙◌}
@@ -6,7 +6,7 @@ use native.Mathlib.Omega.{arith}
 use lib.ListN.{length, get_or}
 use Rattle.triples.specs.Triples.{triples}
 use Rattle.triples.proofs.Totals.{lengths_computed}
-use Rattle.triples.proofs.counts.all.Goals as goal
+use Rattle.triples.proofs.TripleList.length.Goals as goal
 
 -- the number at degree m, if n is m
 of_degree : {n m number : ℕ} → number ≡ length (triples m) → n ≡ m → number ≡ length (triples n)
@@ -26,5 +26,5 @@ returns-in-5 c = of_degree (ap (λ (l : List ℕ). get_or l 3 0) (sym lengths_co
 
 pub returns-in_default : goal.returns-in_default
 returns-in_default c =
-    let six : c.args.n ≡ 6 = omega arith in
+    let six : c.args.self.n ≡ 6 = omega arith in
     of_degree {m = 6} (ap (λ (l : List ℕ). get_or l 4 0) (sym lengths_computed)) six

@@ -12,8 +12,8 @@ use Rattle.codes.proofs.Halves.{least, code_at, Half, half_lt}
 use Rattle.triples.specs.Triples.{none, beginning_with}
 use Rattle.triples.proofs.Beginnings.{common}
 use Rattle.triples.proofs.Finding.{found_first, some, in_both, third, found, passed}
-use Rattle.triples.proofs.seek_second.Invariants.{Kept}
-use Rattle.triples.proofs.seek_second.Goals as goal
+use Rattle.triples.proofs.TripleList.seek_second.Invariants.{Kept}
+use Rattle.triples.proofs.TripleList.seek_second.Goals as goal
 
 -- a code with its half, of the table's degrees, is a word
 double_fits : {n half : ℕ} → Half n half → 2 * half < 2 ^ 32
@@ -58,9 +58,9 @@ pub loop-rest-init : goal.loop-rest-init
 loop-rest-init c =
     let a = c.args in
     let r = c.requires in
-    let code : Half a.n a.half = record { low = omega arith; high = r.n_bound; from = r.n_bound_2; below = r.half_bound } in
+    let code : Half a.self.n a.half = record { low = omega arith; high = a.self.high; from = r.half_from; below = r.half_below } in
     record {
-      finding = rw c.coprimes-first.ensures (found_first a.n a.half a.place code r.place_in_bounds);
+      finding = rw c.coprimes-first.ensures (found_first a.self.n a.half a.place code r.place_inside);
       first_is = c.coprimes-first.ensures;
     }
 

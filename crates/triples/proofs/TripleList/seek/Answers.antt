@@ -7,12 +7,12 @@ use Rattle.poly.proofs.Shifts.{one_shl}
 use Rattle.codes.proofs.Halves.{half_lt}
 use Rattle.triples.proofs.Totals.{counts, count_at}
 use Rattle.triples.proofs.Seeking.{Seeking, begins, code, found, passed}
-use Rattle.triples.proofs.seek.Goals as goal
+use Rattle.triples.proofs.TripleList.seek.Goals as goal
 
 pub loop-rest-init : goal.loop-rest-init
 loop-rest-init c =
-    rw (one_shl 32 (c.args.n - 1) (omega arith))
-    (begins c.args.n c.args.position (omega arith) c.requires.n_bound c.requires.position_in_bounds)
+    rw (one_shl 32 (c.args.self.n - 1) (omega arith))
+    (begins c.args.self.n c.args.position (omega arith) c.args.self.high c.requires)
 
 -- the present code is one of the table's
 in_table : {n position half rest : ℕ} → Seeking n position half rest → half < 64
@@ -26,11 +26,9 @@ unfolding counts
 seek_second-requires c =
     let s = c.loop-rest.invariant in
     record {
-      le_n = c.requires.le_n;
-      n_bound = s.high;
-      n_bound_2 = s.from;
-      half_bound = (code s).below;
-      place_in_bounds = rw (c.from-size.ensures, count_at (code s)) at c.if-rest-size.true;
+      half_from = s.from;
+      half_below = (code s).below;
+      place_inside = rw (c.from-size.ensures, count_at (code s)) at c.if-rest-size.true;
     }
 
 pub returns-then-rest-size : goal.returns-then-rest-size
