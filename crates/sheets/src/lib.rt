@@ -43,6 +43,15 @@ fn all_symbols(order: u8, bytes: &[u8]) -> bool
     good
 }
 
+// The symbols of sheets of one order, no more than a set of 64 bits has room for. They are handed along: with the order among the fields of
+// `Met`, the compiler reads it anew for each two rows, and a check takes up to a twelfth longer.
+#[derive(Clone, Copy)]
+struct Symbols {
+    order: usize,
+    ghost some: { 1 ≤ order },
+    ghost few: { order ≤ 64 },
+}
+
 // The symbols met, as sets with a bit for each: of each column those of the first square and those of the second, and those that the second
 // square has beside each symbol of the first.
 #[derive(Drop)]
@@ -58,7 +67,8 @@ fn graeco_latin(order: usize, sheet: &[u8]) -> bool
     requires { InRange order sheet.now }
     ensures { result ≡ is_graeco_latin order (shown 2 order 0 sheet.now) (shown 2 order 1 sheet.now) }
 {
-    let single = singles(order);
+    let symbols = Symbols { order };
+    let single = symbols.singles();
     let mut met = Met {
         firsts: [0; 64],
         seconds: [0; 64],
@@ -67,23 +77,51 @@ fn graeco_latin(order: usize, sheet: &[u8]) -> bool
     for two in 0..order.div_ceil(2) {
         let row = 2 * two;
         let next = (row + 1).min(order - 1);
-        if !met.put_rows(order, sheet, row, next, &single) {
+        if !met.put_rows(symbols, sheet, row, next, &single) {
             return false;
         }
     }
-    met.is_full(order)
+    met.is_full(symbols)
 }
 
-// The sets of one symbol each: a load from memory takes less than a shift.
-fn singles(order: usize) -> [u64; 64]
-    requires { order ≤ 64 }
-    ensures { Singles order result }
-{
-    let mut one = [0u64; 64];
-    for symbol in 0..order {
-        one[symbol] = 1 << symbol;
+impl Symbols {
+    // The sets of one symbol each: a load from memory takes less than a shift.
+    fn singles(self) -> [u64; 64]
+        ensures { Singles self.order result }
+    {
+        let mut one = [0u64; 64];
+        for symbol in 0..self.order {
+            one[symbol] = 1 << symbol;
+        }
+        one
     }
-    one
+
+    // The set of all of them.
+    fn full(self) -> u64
+        ensures { result ≡ 2 ^ self.order - 1 }
+    {
+        u64::MAX >> (64 - self.order)
+    }
+
+    // Whether two sets both have all symbols.
+    fn both_full(self, first: u64, second: u64) -> bool
+        ensures { result ≡ (eqb first (2 ^ self.order - 1) && eqb second (2 ^ self.order - 1)) }
+    {
+        let all = self.full();
+        first == all && second == all
+    }
+
+    // Whether the first sets of a table, as many as the order, have all symbols. It goes on behind one that has not, as `all_symbols` does.
+    fn all_full(self, table: &[u64; 64]) -> bool
+        ensures { result ≡ all_full self.order table.now }
+    {
+        let all = self.full();
+        let mut good = true;
+        for a in 0..self.order {
+            good &= table[a] == all;
+        }
+        good
+    }
 }
 
 impl Met {
@@ -91,21 +129,24 @@ impl Met {
     // at once: of a column both symbols go into the same set, which the compiler then reads and writes once.
     fn put_rows(
         &mut self,
-        order: usize,
+        symbols: Symbols,
         sheet: &[u8],
         row: usize,
         next: usize,
         single: &[u64; 64],
     ) -> bool
-        requires { InRange order sheet.now × (row < order) × (next < order) × Singles order single.now }
-        ensures value { result ≡ (row_permutes order sheet.now row && row_permutes order sheet.now next) }
-        ensures firsts { self.new.firsts ≡ pairs_put self.old.firsts (2 * order) (λ j. j / 2)
-            (by_turns order sheet.now 0 row next) }
-        ensures seconds { self.new.seconds ≡ pairs_put self.old.seconds (2 * order) (λ j. j / 2)
-            (by_turns order sheet.now 1 row next) }
-        ensures pairs { self.new.pairs ≡ pairs_put self.old.pairs (2 * order) (by_turns order sheet.now 0 row next)
-            (by_turns order sheet.now 1 row next) }
+        requires { InRange symbols.order sheet.now × (row < symbols.order) × (next < symbols.order)
+            × Singles symbols.order single.now }
+        ensures value { result ≡ (row_permutes symbols.order sheet.now row
+            && row_permutes symbols.order sheet.now next) }
+        ensures firsts { self.new.firsts ≡ pairs_put self.old.firsts (2 * symbols.order) (λ j. j / 2)
+            (by_turns symbols.order sheet.now 0 row next) }
+        ensures seconds { self.new.seconds ≡ pairs_put self.old.seconds (2 * symbols.order) (λ j. j / 2)
+            (by_turns symbols.order sheet.now 1 row next) }
+        ensures pairs { self.new.pairs ≡ pairs_put self.old.pairs (2 * symbols.order)
+            (by_turns symbols.order sheet.now 0 row next) (by_turns symbols.order sheet.now 1 row next) }
     {
+        let order = symbols.order;
         let start = row * order;
         let start_next = next * order;
         // The sets of the first and the second symbols of the one row, and of the next.
@@ -132,18 +173,17 @@ impl Met {
             put_two(&mut self.seconds, col, of_b, col, of_d);
             put_two(&mut self.pairs, a, of_b, c, of_d);
         }
-        both_full(order, first, second) && both_full(order, first_next, second_next)
+        symbols.both_full(first, second) && symbols.both_full(first_next, second_next)
     }
 
     // Whether no symbol is missing from any set.
-    fn is_full(&self, order: usize) -> bool
-        requires { (1 ≤ order) × (order ≤ 64) }
-        ensures { result ≡ (all_full order self.now.firsts && all_full order self.now.seconds
-            && all_full order self.now.pairs) }
+    fn is_full(&self, symbols: Symbols) -> bool
+        ensures { result ≡ (all_full symbols.order self.now.firsts && all_full symbols.order self.now.seconds
+            && all_full symbols.order self.now.pairs) }
     {
-        all_full(order, &self.firsts)
-            && all_full(order, &self.seconds)
-            && all_full(order, &self.pairs)
+        symbols.all_full(&self.firsts)
+            && symbols.all_full(&self.seconds)
+            && symbols.all_full(&self.pairs)
     }
 }
 
@@ -154,34 +194,4 @@ fn put_two(table: &mut [u64; 64], a: usize, x: u64, b: usize, y: u64)
 {
     table[a] |= x;
     table[b] |= y;
-}
-
-// The set of all symbols below the order.
-fn full(order: usize) -> u64
-    requires { (1 ≤ order) × (order ≤ 64) }
-    ensures { result ≡ 2 ^ order - 1 }
-{
-    u64::MAX >> (64 - order)
-}
-
-// Whether two sets both have all symbols.
-fn both_full(order: usize, first: u64, second: u64) -> bool
-    requires { (1 ≤ order) × (order ≤ 64) }
-    ensures { result ≡ (eqb first (2 ^ order - 1) && eqb second (2 ^ order - 1)) }
-{
-    let all = full(order);
-    first == all && second == all
-}
-
-// Whether the first sets of a table, as many as the order, have all symbols. It goes on behind one that has not, as `all_symbols` does.
-fn all_full(order: usize, table: &[u64; 64]) -> bool
-    requires { (1 ≤ order) × (order ≤ 64) }
-    ensures { result ≡ all_full order table.now }
-{
-    let all = full(order);
-    let mut good = true;
-    for a in 0..order {
-        good &= table[a] == all;
-    }
-    good
 }

@@ -25,7 +25,7 @@ here in_range row next inside =
 pub loop-col-preserved : goal.loop-col-preserved
 loop-col-preserved c =
     let a = c.args in
-    let N = a.order in
+    let N = a.symbols.order in
     let bytes = a.sheet.now in
     let col = c.loop-col.col in
     let inv = c.loop-col.invariant in
@@ -57,18 +57,12 @@ loop-col-preserved c =
           (h ∙ sym (turn_other N bytes 0 a.row a.next col)) (k1 ∙ other 1),
     )
 
-pub both_full-requires : goal.both_full-requires
-both_full-requires c = let in_range = c.requires.0 in (in_range.some, in_range.few)
-
-pub both_full-requires-then-both_full : goal.both_full-requires-then-both_full
-both_full-requires-then-both_full c = let in_range = c.requires.0 in (in_range.some, in_range.few)
-
 -- both rows, and of the one that fails the other is not tried
 pub returns-then-both_full-clause-value : goal.returns-then-both_full-clause-value
 returns-then-both_full-clause-value c =
     let loop = c.loop-col in
     let (in_range, row, next, _) = c.requires in
-    let all : loop.col ≡ c.args.order = omega arith in
+    let all : loop.col ≡ c.args.symbols.order = omega arith in
     let passes = sym (row_full in_range c.args.row row all loop.invariant.0 loop.invariant.1)
     ∙ sym c.both_full.ensures
     ∙ c.if-both_full.true in
@@ -78,7 +72,7 @@ pub returns-else-both_full-clause-value : goal.returns-else-both_full-clause-val
 returns-else-both_full-clause-value c =
     let loop = c.loop-col in
     let (in_range, row, _, _) = c.requires in
-    let all : loop.col ≡ c.args.order = omega arith in
+    let all : loop.col ≡ c.args.symbols.order = omega arith in
     let fails = sym (row_full in_range c.args.row row all loop.invariant.0 loop.invariant.1)
     ∙ sym c.both_full.ensures
     ∙ c.if-both_full.false in

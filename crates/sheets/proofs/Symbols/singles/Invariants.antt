@@ -2,7 +2,7 @@
 use mathlib.Core.Path.{◌≡◌}
 use lib.ListN.{length}
 use Rattle.sheets.specs.Inner.{Singles}
-use Rattle.sheets.proofs.singles.Given as goal
+use Rattle.sheets.proofs.Symbols.singles.Given as goal
 
 abbrev pub invariant-loop-symbol : goal.invariant-loop-symbol
 invariant-loop-symbol l = (length l.one ≡ 64) × Singles l.symbol l.one

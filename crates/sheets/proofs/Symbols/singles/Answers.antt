@@ -7,7 +7,7 @@ use lib.ListN.{length, length-set}
 use lib.Seq.{get_or-set_same, get_or-set_other}
 use Rattle.poly.proofs.Shifts.{one_shl}
 use Rattle.sheets.proofs.Below.{last_or}
-use Rattle.sheets.proofs.singles.Goals as goal
+use Rattle.sheets.proofs.Symbols.singles.Goals as goal
 
 pub loop-symbol-init : goal.loop-symbol-init
 loop-symbol-init c = (refl, record { at = λ s h. absurd (omega arith) })
@@ -15,7 +15,7 @@ loop-symbol-init c = (refl, record { at = λ s h. absurd (omega arith) })
 pub loop-symbol-preserved : goal.loop-symbol-preserved
 loop-symbol-preserved c =
     let loop = c.loop-symbol in
-    let few : loop.symbol < 64 = omega (arith, c.requires, c.loop-symbol-test.true) in
+    let few : loop.symbol < 64 = omega (arith, c.args.self.few, c.loop-symbol-test.true) in
     let inside : loop.symbol < length loop.one = omega (arith, loop.invariant.0) in
     let single = 1 * 2 ^ loop.symbol % 2 ^ 64 in (
       length-set loop.one loop.symbol single ∙ loop.invariant.0,
@@ -32,5 +32,5 @@ loop-symbol-preserved c =
 
 pub returns : goal.returns
 returns c =
-    let all : c.loop-symbol.symbol ≡ c.args.order = omega arith in
+    let all : c.loop-symbol.symbol ≡ c.args.self.order = omega arith in
     rw all at c.loop-symbol.invariant.1
