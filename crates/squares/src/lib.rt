@@ -97,6 +97,8 @@ pub fn sheet3(n: u32, f: u32, g: u32, h: u32, out: &mut [u8]) -> Result<(), Refu
 }
 
 // The sheet of two or three codes that have passed, if there is room for it.
+// The degree and the codes are passed apart, here and below: behind one struct the compiler does not see how many codes there are, and a
+// sheet of two of low degree takes a quarter longer. With each step inlined by a hint, one of three still takes 2 to 5 % longer.
 fn lay(n: u32, codes: &[u32], out: &mut [u8]) -> Result<(), Refusal>
     requires { Fillable n codes.now }
     ensures result_value { laid_reply result ≡ room_reply (length codes.now) n (length out.old) }
