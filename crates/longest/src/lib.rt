@@ -34,5 +34,5 @@ fn reaching(n: u32) -> u64
     requires { n ≤ 31 }
     ensures { result ≡ length (words n) }
 {
-    ((1u64 << n) + 2 - 4 * (n % 2) as u64) / 3
+    ((1u64 << n) + 2 - 4 * u64::from(n % 2)) / 3
 }
