@@ -6,7 +6,7 @@ ghost use Rattle.std.specs.Prelude.{◌≡◌, ◌+◌, ◌*◌, ◌/◌, ◌^�
 pub fn share(x: u32, d: u32) -> u32
     ensures { result ≡ x * (2 ^ 32 / d + 1) / 2 ^ 32 }
 {
-    ((x as u64 * reciprocal(d)) >> 32) as u32
+    ((u64::from(x) * reciprocal(d)) >> 32) as u32
 }
 
 // The least whole number above 2^32 / d. Of the cases the compiler makes a table, where an array would be laid on the stack at each call;
@@ -46,6 +46,6 @@ fn reciprocal(d: u32) -> u64
         28 => 153391690,
         29 => 148102321,
         30 => 143165577,
-        _ => 4294967296 / d as u64 + 1,
+        _ => 4294967296 / u64::from(d) + 1,
     }
 }

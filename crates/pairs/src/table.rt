@@ -16,5 +16,5 @@ pub fn word_count(k: usize) -> u64
     if 32 <= k {
         return 0;
     }
-    WORDS[k] as u64
+    u64::from(WORDS[k])
 }

@@ -13,4 +13,4 @@ returns-then-k-ge32 c = rw (le-ltb c.args.k 32 c.if-k-ge32.true)
 
 pub returns : goal.returns
 unfolding table
-returns c = right c.args.k (search rules) ∙ sym (tabled_is c.args.k (search rules))
+returns c = c.from.ensures ∙ right c.args.k (search rules) ∙ sym (tabled_is c.args.k (search rules))
