@@ -14,8 +14,9 @@ from pathlib import Path
 def proved():
     """What each function of the libraries calls, and those that have a loop: the code that is proved, which a build of a library keeps, and that
     of the standard library. What a generic function calls through a trait is put down to the function that hands the impl in: to that
-    function, all the methods of the impl count as called. A call through a pointer or a closure gets a name that no function has, so that it is
-    refused where one of the two calls uses it."""
+    function, all the methods of the impl count as called, closures among them. So a method that calls back the function which it was handed to
+    is seen in the machine code alone. Any other call that names no function gets a name that no function has, so that it is refused where one
+    of the two calls uses it."""
     calls, loops = {}, set()
     kit = Path(subprocess.run(["rt", "doc"], stdout=subprocess.PIPE, check=True, text=True).stdout.strip()).parent
     for file in [*Path("crates").glob("*/out/rlib/*.rlib/toolchain/mir.json"), kit / "rlibs/core.rlib/toolchain/mir.json"]:

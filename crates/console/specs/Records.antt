@@ -1,5 +1,5 @@
 -- The library's records and replies, put together from what C passes.
-use Rattle.std.specs.Prelude.{ℕ, List, [], ◌≡◌, length, take, drop}
+use Rattle.std.specs.Prelude.{ℕ, cond, eqb, List, [], ◌≡◌, length, take, drop}
 use Rattle.reply.specs.Reply.{Reply, after}
 use Rattle.trial.specs.Trial.{Trial}
 use Rattle.trial.specs.Replies.{read_reply, name_read, levels_after, write_reply, file_after}
@@ -33,6 +33,10 @@ SetsMark walk mark = Changes (set_mark_reply walk mark) (after_set_mark walk mar
 
 abbrev pub GoesBack : Walk → ℕ → Walk → ℕ → Type 0
 GoesBack walk mark = Changes (go_back_reply walk mark) (after_go_back walk mark)
+
+-- Storing the new record in the lent one exactly where the status is 0 makes such a call's promise true, whatever stood there.
+abbrev pub Stores : (Walk → Walk → ℕ → Type 0) → Walk → ℕ → Type 0
+Stores says new s = (walk : Walk) → says walk (cond (eqb s 0) new walk) s
 
 -- A call that writes a file: what it returns, the slice after it, and what stands behind the pointer for the length, with what stood there
 -- before.
