@@ -47,7 +47,11 @@ impl Sum {
     }
 
     // What a call answers: what `served` adds, or the number of the refusal.
-    pub fn add_answer<T, F: FnOnce(&mut Sum, T)>(&mut self, answer: Result<T, Refusal>, served: F)
+    pub(crate) fn add_answer<T, F: FnOnce(&mut Sum, T)>(
+        &mut self,
+        answer: Result<T, Refusal>,
+        served: F,
+    )
         requires { F.IsAlwaysCallable served }
     {
         match answer {
@@ -57,7 +61,7 @@ impl Sum {
     }
 
     // The same of a call that may also say spent.
-    pub fn add_next<T, F: FnOnce(&mut Sum, T)>(
+    pub(crate) fn add_next<T, F: FnOnce(&mut Sum, T)>(
         &mut self,
         answer: Result<Option<T>, Refusal>,
         served: F,
