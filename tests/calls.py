@@ -12,18 +12,18 @@ from pathlib import Path
 
 
 def proved():
-    """What each function of the libraries calls, and those that have a loop: the code that is proved, which a build of a library keeps, and that
-    of the standard library. What a generic function calls through a trait is put down to the function that hands the impl in: to that
-    function, all the methods of the impl count as called, closures among them. So a method that calls back the function which it was handed to
-    is seen in the machine code alone. Any other call that names no function gets a name that no function has, so that it is refused where one
-    of the two calls uses it."""
-    calls, loops = {}, set()
+    """What each function of the libraries calls by name, those that have a loop, those that call through a trait what only their callers know,
+    and the methods of the impls that each hands in, closures among them: the code that is proved, which a build of a library keeps, and that
+    of the standard library. Any other call that names no function gets a name that no function has, so that it is refused where one of the two
+    calls uses it."""
+    calls, loops, asking, handed = {}, set(), set(), {}
     kit = Path(subprocess.run(["rt", "doc"], stdout=subprocess.PIPE, check=True, text=True).stdout.strip()).parent
     for file in [*Path("crates").glob("*/out/rlib/*.rlib/toolchain/mir.json"), kit / "rlibs/core.rlib/toolchain/mir.json"]:
         for name, function in json.loads(file.read_text()):
             if name in calls:
                 sys.exit(f"{name}: defined twice")
-            calls[name] = {method for impl in function["generics"]["impls"] for method in impl["methods"]}
+            calls[name] = set()
+            handed[name] = {method for impl in function["generics"]["impls"] for method in impl["methods"]}
             ahead = [function["body"]]
             while ahead:
                 part = ahead.pop()
@@ -36,13 +36,13 @@ def proved():
                         if kind == "Call" and list(inside[0]) == ["Fn"]:
                             calls[name].add(inside[0]["Fn"][0])
                         elif kind == "Call" and list(inside[0]) == ["Method"] and list(inside[0]["Method"][0]) == ["Given"]:
-                            pass
+                            asking.add(name)
                         elif "Call" in kind:
                             calls[name].add(f"a function that only a caller of {name} names")
                         elif kind == "Loop":
                             loops.add(name)
                         ahead.append(inside)
-    return calls, loops
+    return calls, loops, asking, handed
 
 
 def compiled(archive):
@@ -80,32 +80,58 @@ def compiled(archive):
                     sys.exit(f"{name}: a call into its own middle")
             elif int(to[2] or "0", 16) <= int(step[1], 16):
                 loops.add(name)
-    return calls, loops
+    return calls, loops, set(), {}
 
 
 def hold(code, known, chain, longest, pair):
-    calls, loops = code
+    calls, loops, asking, handed = code
 
-    def used(name):
+    def below(name):
+        """What each function calls that a function uses. One that calls through a trait is taken to call all methods of all impls that one of
+        these functions hands in, so that a method that calls back whom it was handed to is seen, however far down the impl was passed."""
+        given = set()
+        while True:
+            found, ahead = {}, [name]
+            while ahead:
+                at = ahead.pop()
+                if at in found:
+                    continue
+                if at not in calls and at not in known:
+                    sys.exit(f"{name} calls {at}, whose code is not here")
+                found[at] = calls.get(at, set()) | (given if at in asking else set())
+                ahead += found[at]
+            more = set().union(*(handed.get(at, set()) for at in found))
+            if more == given:
+                break
+            given = more
+        blind = sorted(at for at in found if at in asking)
+        if blind and not given:
+            sys.exit(f"{name} uses {blind[0]}, which calls a method that nothing hands in")
+        return found
+
+    def used(graph, name):
         """The functions that a function calls, straight or through others."""
         found, ahead = set(), [name]
         while ahead:
-            at = ahead.pop()
-            if at not in calls and at not in known:
-                sys.exit(f"{name} calls {at}, whose code is not here")
-            new = calls.get(at, set()) - found
+            new = graph[ahead.pop()] - found
             found |= new
             ahead += new
         return found
 
     def calling_themselves(name):
-        return sorted(f for f in used(name) | {name} if f in used(f))
+        graph = below(name)
+        return sorted(f for f in graph if f in used(graph, f))
 
     def frames(name):
-        return 1 + max((frames(f) for f in calls.get(name, ())), default=0)
+        graph = below(name)
+
+        def deep(at):
+            return 1 + max((deep(f) for f in graph[at]), default=0)
+
+        return deep(name)
 
     def looping(name):
-        return sorted((used(name) | {name}) & (loops | known))
+        return sorted(below(name).keys() & (loops | known))
 
     if calling_themselves(chain):
         sys.exit(f"chain call: {', '.join(calling_themselves(chain))}: calls itself")
@@ -113,8 +139,8 @@ def hold(code, known, chain, longest, pair):
         sys.exit(f"longest chains: {', '.join(calling_themselves(longest) + looping(longest))}: calls itself or has a loop")
     if not calling_themselves(pair) or not looping(chain):
         sys.exit("no word reader is seen to call another, or the chain call is seen to have no loop")
-    print(f"{chain}: {len(used(chain))} functions below it, none calls itself; {frames(chain)} frames at most")
-    print(f"{longest}: {len(used(longest))} functions below it, none calls itself or has a loop")
+    print(f"{chain}: {len(below(chain)) - 1} functions below it, none calls itself; {frames(chain)} frames at most")
+    print(f"{longest}: {len(below(longest)) - 1} functions below it, none calls itself or has a loop")
 
 
 hold(proved(), set(), "euclid::quotients", "longest::longest_chains", "pairs::pair::pair_at")
