@@ -39,7 +39,9 @@ fn put_level(out: &mut [u8], at: usize, level: u16) -> usize
     at + 3
 }
 
-// Puts the levels at a position of `out`, and gives the position behind them.
+// Puts the levels at a position of `out`, and gives the position behind them. Not inlined: with three copies of the loop in one function no
+// register is left for the third list, and a file of version 2 takes a twelfth longer.
+#[inline(never)]
 pub(crate) fn put_levels(out: &mut [u8], at: usize, levels: &[u16]) -> usize
     requires { at + length (encode_numbers levels.now) ≤ length out.old }
     ensures { Puts out.old at (encode_numbers levels.now) result out.new }
