@@ -3,20 +3,10 @@ use crate::sum::Sum;
 use reply::Refusal;
 use walk::Walk;
 
-// A record that every call refuses.
-const NO_WALK: Walk = Walk {
-    degree: 0,
-    position: 0,
-    marks: [0; 8],
-    counts: [0; 8],
-    f: 0,
-    g: 0,
-};
-
-// The record that a start or a file gives, and the answer added; where it is refused, one that every call refuses.
+// The record of a start or of a file, and the answer added.
 pub fn begun(sum: &mut Sum, answer: Result<Walk, Refusal>) -> Walk {
     sum.add_answer(answer, |sum, _| sum.add(0u32));
-    answer.unwrap_or(NO_WALK)
+    walk::record_given(answer)
 }
 
 // The i-th call: a mark is set at every sixteenth, a return made at every 64th, and the others draw. Mark 8 and bonder 8 are refused.

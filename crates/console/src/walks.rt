@@ -46,12 +46,24 @@ pub extern "C" fn dw_look(walk: &Walk, f: &mut u32, g: &mut u32) -> u32
     store_next(walk.look(), f, g)
 }
 
-// A draw for a bonder from a walk that the console lends.
+// A draw for a bonder from a walk that the console lends, over the core that takes and gives the record by value. The pair is stored before
+// the record.
 #[unsafe(no_mangle)]
 pub extern "C" fn dw_draw(walk: &mut Walk, bonder: u32, f: &mut u32, g: &mut u32) -> u32
     ensures { Draws walk.old bonder walk.new f.old g.old f.new g.new result }
 {
-    store_next(walk.draw(bonder), f, g)
+    let here = *walk;
+    let drawn = here.drawn(bonder);
+    let status = store_next(drawn.answer, f, g);
+    if status == 0 {
+        // Neither the degree nor the marks, which a draw does not change.
+        let counts = drawn.walk.counts;
+        walk.position = drawn.walk.position;
+        walk.counts = counts;
+        walk.f = drawn.walk.f;
+        walk.g = drawn.walk.g;
+    }
+    status
 }
 
 // The position of a walk that the console lends, stored in one of its marks.

@@ -1,9 +1,9 @@
 -- The end of a file that is read. In place of a degree above 31 the code has 0, and 3 refuses either.
 use mathlib.Core.Bool.{true, false, true≢false}
 use mathlib.Core.List.{List, []}
-use Rattle.std.specs.Prelude.{Result, Ok, Err, IfOk}
+use Rattle.std.specs.Prelude.{Result, Ok, Err}
 use Rattle.std.specs.Result.{OkIff, result_unwrap_or}
-use mathlib.Core.Path.{◌≡◌, sym, ap, subst, ◌∙◌}
+use mathlib.Core.Path.{◌≡◌, sym, ap, ◌∙◌}
 use Prim.Native.Nat.{ℕ, ◌^◌, ◌≤◌, ◌<◌}
 use native.Mathlib.Decide.{dec_lt}
 use native.Mathlib.Omega.{arith}
@@ -12,7 +12,7 @@ use lib.ListN.{length}
 use Rattle.reply.specs.Numbers.{number_of}
 use Rattle.reply.specs.declared.Refusal.{Refusal}
 use Rattle.poly.proofs.Ranges.{outside_below, outside_above}
-use Rattle.leb128.specs.Parser.{Parser, Parsed, parsed, failed, parse_end}
+use Rattle.leb128.specs.Parser.{Parser, parsed, failed, parse_end}
 use Rattle.walk.specs.declared.Walk.{Walk}
 use Rattle.walk.specs.Walks.{walk_at, bad_record, righted}
 use Rattle.walk.proofs.Looks.{bad_degree}
@@ -23,16 +23,16 @@ use Rattle.saved.specs.Answers.{Loads}
 -- ---- an answer from what the parser gives
 module _ (parser : Parser Walk) (bytes : List ℕ) where
   pub refused_load : (why : Refusal) → parser bytes ≡ failed (number_of why) → Loads parser bytes (Err why)
-  refused_load why e = record { reply = ap load_reply (sym e); walk = tt }
+  refused_load why e = record { reply = ap load_reply (sym e); walk = ap record_read (sym e) }
 
   pub read_load : {walk : Walk} {rest : List ℕ} → parser bytes ≡ parsed walk rest → Loads parser bytes (Ok walk)
   read_load e = record { reply = ap load_reply (sym e); walk = ap record_read (sym e) }
 
   pub same_load : (other : Parser Walk) (rest : List ℕ) {r : Result Walk Refusal} → parser bytes ≡ other rest → Loads other rest r
       → Loads parser bytes r
-  same_load other rest {r} e loads = record {
+  same_load other rest e loads = record {
     reply = loads.reply ∙ ap load_reply (sym e);
-    walk = subst (λ (read : Parsed Walk). IfOk r (λ walk. walk ≡ record_read read)) (sym e) loads.walk;
+    walk = loads.walk ∙ ap record_read (sym e);
   }
 
 -- ---- the last cause

@@ -21,7 +21,7 @@ abbrev pub load_reply : Parsed Walk → Reply
 load_reply (parsed walk rest) = served []
 load_reply (failed number) = refused number
 
--- That record. Where a file is refused there is none; here one of degree 0, which every call refuses, stands for it.
+-- That record. Where a file is refused, it is one of degree 0, which every call refuses.
 abbrev pub record_read : Parsed Walk → Walk
 record_read (parsed walk rest) = walk
 record_read (failed number) = begun 0

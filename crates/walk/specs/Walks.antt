@@ -1,6 +1,6 @@
 -- The walk (document 01, "Walk"; document 02, request c: its marks, g: its bonders, and h: the next pair kept): what start, look, draw,
 -- setting a mark, going back to one and setting the next pair right reply, and the record after them.
-use Rattle.std.specs.Prelude.{ℕ, ◌+◌, ◌-◌, Bool, false, ◌||◌, ◌&&◌, cond, List, [], ◌∷◌, ltb, eqb, get_or, set, replicate, Option, Result}
+use Rattle.std.specs.Prelude.{ℕ, ◌+◌, ◌-◌, Bool, false, ◌||◌, ◌&&◌, cond, List, [], ◌∷◌, ltb, eqb, get_or, set, replicate, Option, Result, Ok, Err}
 use Rattle.reply.specs.declared.Refusal.{Refusal}
 use Rattle.reply.specs.Reply.{Reply, served, spent, Cause, ◌gives◌, unless, after}
 use Rattle.reply.specs.Answers.{answer_reply, optional_reply}
@@ -39,9 +39,14 @@ change_reply = answer_reply (λ _. [])
 abbrev pub start_reply : ℕ → Reply
 start_reply n = unless (degree_cause n ∷ []) (served [])
 
--- The record that starting gives. Where it is refused there is none; here one of degree 0, which every call refuses, stands for it.
+-- The record that starting gives. Where it is refused, one of degree 0, which every call refuses.
 abbrev pub started : ℕ → Walk
 started n = after (start_reply n) (begun n) (begun 0)
+
+-- The record that an answer gives; where it is a refusal, the one of degree 0.
+abbrev pub record_given : Result Walk Refusal → Walk
+record_given (Ok walk) = walk
+record_given (Err why) = begun 0
 
 -- Some number of a list is above `most`.
 abbrev pub any_above : ℕ → List ℕ → Bool

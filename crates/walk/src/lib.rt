@@ -6,7 +6,7 @@ ghost use Rattle.reply.specs.Numbers.{number_of};
 ghost use Rattle.reply.specs.Reply.{served, refused, ◌gives◌, unless};
 ghost use Rattle.poly.specs.Limits.{list_length};
 ghost use Rattle.poly.specs.Replies.{checked_reply};
-ghost use Rattle.walk.specs.Walks.{begun, change_reply, start_reply, started, any_above, bad_record, record_cause, next_reply, righted};
+ghost use Rattle.walk.specs.Walks.{begun, change_reply, start_reply, started, record_given, any_above, bad_record, record_cause, next_reply, righted};
 ghost use Rattle.walk.specs.Walks.{look_reply, draw_reply, after_draw, set_mark_reply, after_set_mark};
 ghost use Rattle.walk.specs.Walks.{go_back_reply, after_go_back, set_right_reply, after_set_right};
 
@@ -42,12 +42,22 @@ pub struct Drawn {
 // A walk at the start of the list of a degree.
 pub fn start(n: u32) -> Result<Walk, Refusal>
     ensures reply { change_reply result ≡ start_reply n }
-    ensures walk { IfOk result (λ walk. walk ≡ started n) }
+    ensures walk { record_given result ≡ started n }
 {
     if (Degree { n }).outside() {
         return Err(Refusal::DegreeRange);
     }
     Ok(begun(n))
+}
+
+// The record of an answer that gives a walk; where there is none, one that no call serves.
+pub fn record_given(answer: Result<Walk, Refusal>) -> Walk
+    ensures { result ≡ record_given answer }
+{
+    match answer {
+        Ok(walk) => walk,
+        Err(_) => begun(0),
+    }
 }
 
 // A record at the start of a list. The first pair of each list that has one is x^n + x + 1 and x^n + 1.
@@ -146,35 +156,48 @@ impl Walk {
         }
     }
 
+    // An answer to a draw, and the record as it was.
+    fn unmoved(self, answer: Result<Option<Pair>, Refusal>) -> Drawn
+        ensures { (result.answer ≡ answer) × (result.walk ≡ self) }
+    {
+        Drawn { answer, walk: self }
+    }
+
     // The pair that the record holds, for a bonder. Where it gives one, the record is moved on by one, the bonder's count is raised, and
     // the next pair is worked out.
-    pub fn draw(&mut self, bonder: u32) -> Result<Option<Pair>, Refusal>
-        ensures reply { next_reply result ≡ draw_reply self.old bonder }
-        ensures after { self.new ≡ after_draw self.old bonder }
+    pub fn drawn(mut self, bonder: u32) -> Drawn
+        ensures reply { next_reply result.answer ≡ draw_reply self bonder }
+        ensures walk { result.walk ≡ after_draw self bonder }
     {
-        let length = self.length_for(bonder, Refusal::BonderRange)?;
+        let length = match self.length_for(bonder, Refusal::BonderRange) {
+            Ok(length) => length,
+            Err(refusal) => return self.unmoved(Err(refusal)),
+        };
         if length <= self.position {
-            return Ok(None);
+            return self.unmoved(Ok(None));
         }
         let count = self.counts[bonder as usize];
         if count == FULL_COUNT {
-            return Err(Refusal::BonderFull);
+            return self.unmoved(Err(Refusal::BonderFull));
         }
         let given = self.held();
         self.counts[bonder as usize] = count + 1;
         self.position += 1;
         self.work_out();
-        Ok(Some(given))
+        Drawn {
+            answer: Ok(Some(given)),
+            walk: self,
+        }
     }
 
-    // The same by value. Document 01 names it the other way round, a thin draw from a lent record over a core by value; the record was then
-    // copied, which took a draw some 10 ns more.
-    pub fn drawn(mut self, bonder: u32) -> Drawn
-        ensures reply { next_reply result.answer ≡ draw_reply self bonder }
-        ensures record { result.walk ≡ after_draw self bonder }
+    // The draw from a record that the console lends, thin over the core by value, as document 01 asks.
+    pub fn draw(&mut self, bonder: u32) -> Result<Option<Pair>, Refusal>
+        ensures reply { next_reply result ≡ draw_reply self.old bonder }
+        ensures after { self.new ≡ after_draw self.old bonder }
     {
-        let answer = self.draw(bonder);
-        Drawn { answer, walk: self }
+        let drawn = self.drawn(bonder);
+        *self = drawn.walk;
+        drawn.answer
     }
 
     // Stores the position in a mark.
